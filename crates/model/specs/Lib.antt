@@ -1,3 +1,11 @@
+pub mod Answers
+pub mod Settings
+pub mod Records
+pub mod Rows
+pub mod Timeslice
+pub mod Carry
+pub mod Legal
+pub mod Pages
 pub mod Shape
 pub mod Numbering
 pub mod Tree
