@@ -6,6 +6,16 @@ pub mod Timeslice
 pub mod Carry
 pub mod Legal
 pub mod Pages
+pub mod Memory
+pub mod Outset
+pub mod NetChange
+pub mod Starts
+pub mod Changes
+pub mod Queries
+pub mod Files
+pub mod Audit
+pub mod Calls
+pub mod Demands
 pub mod Shape
 pub mod Numbering
 pub mod Tree

@@ -1,0 +1,87 @@
+-- Lists of calls (01, "Lists of calls"): starts, calls, and what a list leaves, made of the very definitions that
+-- the calls' contracts cite; and the states that accepted calls leave. Assumes nothing.
+use Prim.Native.Nat.{ℕ, _^_, _<_}
+use mathlib.Core.Path.{_≡_}
+use mathlib.Core.List.{List, [], _∷_}
+use Rattle.codec.specs.LittleEndian.{AreBytes}
+use Rattle.model.specs.Answers.{Outcome, answers}
+use Rattle.model.specs.Memory.{Memory, State, Lendable}
+use Rattle.model.specs.Starts.{After, freshOf, openOf}
+use Rattle.model.specs.Changes.{insertOf, deleteOf, updateOf}
+use Rattle.model.specs.Files.{keepOf, dropOf}
+
+-- "A list of demand 3 starts at an accepted fresh store or opening"
+pub data Start : Type 0 where
+  fresh : (d N R : ℕ) → Memory → Start
+  opening : Memory → Start
+
+unfoldable pub begun : Start → After
+begun (fresh d N R m) = freshOf d N R m
+begun (opening m) = openOf m
+
+-- the calls of a list, with all that they are given: "Outputs and workspaces are each call's own"
+pub data Call : Type 0 where
+  insert : (t a c : ℕ) → Call
+  delete : (t a : ℕ) → Call
+  update : (t a c : ℕ) → Call
+  position : (t : ℕ) → Call
+  table : (t : ℕ) → (out : List ℕ) → Call
+  view : (t : ℕ) → Call
+  netChange : (a b : ℕ) → (out work : List ℕ) → Call
+  keep : (t : ℕ) → Call
+  drop : (t : ℕ) → Call
+  audit : Call
+
+-- the store after a call; queries and the audit change no part of it
+unfoldable pub step : State → Call → State
+step st (insert t a c) = insertOf st t a c .state
+step st (delete t a) = deleteOf st t a .state
+step st (update t a c) = updateOf st t a c .state
+step st (position t) = st
+step st (table t out) = st
+step st (view t) = st
+step st (netChange a b out work) = st
+step st (keep t) = keepOf st t .state
+step st (drop t) = dropOf st t .state
+step st audit = st
+
+-- "Each call gets the store's numbers and the lent [memory] as the last one returned or left them"
+unfoldable pub run : State → List Call → State
+run st [] = st
+run st (c ∷ cs) = run (step st c) cs
+
+-- ---- values of their types
+
+unfoldable pub StartFits : Start → Type 0
+StartFits (fresh d N R m) = (d < 2 ^ 16) × ((N < 2 ^ 16) × ((R < 2 ^ 32) × Lendable m))
+StartFits (opening m) = Lendable m
+
+unfoldable pub CallFits : Call → Type 0
+CallFits (insert t a c) = (t < 2 ^ 64) × ((a < 2 ^ 32) × (c < 2 ^ 32))
+CallFits (delete t a) = (t < 2 ^ 64) × (a < 2 ^ 32)
+CallFits (update t a c) = (t < 2 ^ 64) × ((a < 2 ^ 32) × (c < 2 ^ 32))
+CallFits (position t) = t < 2 ^ 64
+CallFits (table t out) = (t < 2 ^ 64) × AreBytes out
+CallFits (view t) = t < 2 ^ 64
+CallFits (netChange a b out work) = (a < 2 ^ 64) × ((b < 2 ^ 64) × (AreBytes out × AreBytes work))
+CallFits (keep t) = t < 2 ^ 64
+CallFits (drop t) = t < 2 ^ 64
+CallFits audit = Unit
+
+unfoldable pub AllFit : List Call → Type 0
+AllFit [] = Unit
+AllFit (c ∷ cs) = CallFits c × AllFit cs
+
+-- ---- the states that accepted calls leave
+
+abbrev pub Accepted : After → Type 0
+Accepted a = a .outcome ≡ answers tt
+
+-- a constructor for each start and each accepted call; a query or an audit leaves the state it was given
+pub data Reachable : State → Type 0 where
+  started : (s : Start) → StartFits s → Accepted (begun s) → Reachable (begun s .state)
+  inserted : {st : State} (t a c : ℕ) → Reachable st → CallFits (insert t a c) → Accepted (insertOf st t a c) → Reachable (insertOf st t a c .state)
+  deleted : {st : State} (t a : ℕ) → Reachable st → CallFits (delete t a) → Accepted (deleteOf st t a) → Reachable (deleteOf st t a .state)
+  updated : {st : State} (t a c : ℕ) → Reachable st → CallFits (update t a c) → Accepted (updateOf st t a c) → Reachable (updateOf st t a c .state)
+  kept : {st : State} (t : ℕ) → Reachable st → CallFits (keep t) → Accepted (keepOf st t) → Reachable (keepOf st t .state)
+  dropped : {st : State} (t : ℕ) → Reachable st → CallFits (drop t) → Accepted (dropOf st t) → Reachable (dropOf st t .state)

@@ -1,0 +1,104 @@
+-- Keep and drop a count file (01, "Count files", "The questions, in order"). Promised where the audit passes the
+-- memory. Assumes nothing.
+use Prim.Native.Nat.{ℕ, suc, _+_, _-_, _*_}
+use mathlib.Core.List.{List, [], _∷_, _++_, map}
+use mathlib.Core.Bool.{Bool, false, not, cond, _&&_, _||_}
+use lib.ListN.{length, take, replicate}
+use lib.Dec.{leb, ltb, eqb}
+use Rattle.codec.specs.Parts.{zeros, put, part}
+use Rattle.model.specs.declared.Numbers.{Numbers}
+use Rattle.model.specs.declared.Entry.{Entry}
+use Rattle.model.specs.Answers.{Outcome, answers, Question, question, firstNo, unlessNo}
+use Rattle.model.specs.Rows.{tableBytes}
+use Rattle.model.specs.Memory.{Memory, State, state, noEntry, sound, capacityOf}
+use Rattle.model.specs.Starts.{After, after}
+use Rattle.model.specs.Changes.{unchanged}
+use Rattle.model.specs.Queries.{timeHeld, rowsAt}
+
+-- a count file: its entry and the 8 × R bytes of its area
+pub record File : Type 0 where
+  pub entry : Entry
+  pub area : List ℕ
+
+-- "Entry i's table is in area i of 8 × R bytes"
+unfoldable pub filesIn : ℕ → List ℕ → ℕ → List Entry → List File
+filesIn R areas i [] = []
+filesIn R areas i (e ∷ es) = record { entry = e; area = part (8 * R * i) (8 * R) areas } ∷ filesIn R areas (suc i) es
+
+-- the files that a state holds
+abbrev pub filesOf : State → List File
+filesOf st =
+    let s = st .numbers in
+    filesIn (s .limit) (st .memory .areas) 0 (take (s .files) (st .memory .catalogue))
+
+-- no file: a zero entry and a zero area
+abbrev pub noFile : ℕ → File
+noFile R = record { entry = noEntry; area = zeros (8 * R) }
+
+unfoldable pub areasBytes : List File → List ℕ
+areasBytes [] = []
+areasBytes (f ∷ fs) = f .area ++ areasBytes fs
+
+abbrev pub entryOf : File → Entry
+entryOf f = f .entry
+
+-- the memory with these files at the front of catalogue and areas
+abbrev pub withFiles : List File → Memory → Memory
+withFiles fs m =
+    record {
+      log = m .log;
+      index = m .index;
+      table = m .table;
+      catalogue = put (m .catalogue) 0 (map entryOf fs);
+      areas = put (m .areas) 0 (areasBytes fs);
+    }
+
+abbrev pub withCount : Numbers → ℕ → Numbers
+withCount s k =
+    record { order = s .order; page = s .page; limit = s .limit; records = s .records; last = s .last; live = s .live; files = k }
+
+-- ---- keep
+
+unfoldable pub isKept : ℕ → List File → Bool
+isKept t [] = false
+isKept t (f ∷ fs) = eqb (f .entry .time) t || isKept t fs
+
+abbrev pub keepQuestions : State → ℕ → List Question
+keepQuestions st t =
+    question 1 (sound st) ∷ timeHeld st t ∷ question 14 (not (eqb t 0) && not (isKept t (filesOf st)))
+    ∷ question 15 (ltb (st .numbers .files) (capacityOf (st .numbers .limit) (st .memory))) ∷ []
+
+-- "ascending by time"; "Keeping shifts the later files up"
+unfoldable pub fileIn : File → List File → List File
+fileIn f [] = f ∷ []
+fileIn f (x ∷ xs) = cond (ltb (x .entry .time) (f .entry .time)) (x ∷ fileIn f xs) (f ∷ (x ∷ xs))
+
+-- the file of time t: its entry and its table
+abbrev pub fileAt : State → ℕ → File
+fileAt st t =
+    record { entry = record { time = t; rows = length (rowsAt st t) }; area = tableBytes (st .numbers .limit) (rowsAt st t) }
+
+unfoldable pub keepOf : State → ℕ → After
+keepOf st t =
+    unlessNo (firstNo (keepQuestions st t))
+    (after (answers tt) (state (withCount (st .numbers) (st .numbers .files + 1)) (withFiles (fileIn (fileAt st t) (filesOf st)) (st .memory))))
+    (unchanged st)
+
+-- ---- drop
+
+-- the files of other times
+unfoldable pub otherFiles : ℕ → List File → List File
+otherFiles t [] = []
+otherFiles t (f ∷ fs) = cond (eqb (f .entry .time) t) (otherFiles t fs) (f ∷ otherFiles t fs)
+
+-- "dropping shifts them down and zeroes the last used entry and area"
+abbrev pub closedUp : ℕ → ℕ → List File → List File
+closedUp R files fs = fs ++ replicate (files - length fs) (noFile R)
+
+unfoldable pub dropOf : State → ℕ → After
+dropOf st t =
+    let s = st .numbers in
+    let left = otherFiles t (filesOf st) in
+    unlessNo (firstNo (question 1 (sound st) ∷ question 16 (isKept t (filesOf st)) ∷ []))
+    (after (answers tt) (state (withCount s (length left)) (withFiles (closedUp (s .limit) (s .files) left) (st .memory))))
+    (unchanged st)
