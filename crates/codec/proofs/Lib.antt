@@ -1,0 +1,4 @@
+pub mod Numbers
+pub mod PartLaws
+pub mod Moves
+pub mod Sameness
