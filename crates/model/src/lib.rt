@@ -37,6 +37,16 @@ pub struct Numbers {
     pub files: u32,
 }
 
+// A record of the log, all six fields of it (01, "Log bytes").
+pub struct Record {
+    pub size: u16,
+    pub kind: u16,
+    pub id: u32,
+    pub time: u64,
+    pub article: u32,
+    pub count: u32,
+}
+
 // An entry of the catalogue of count files: the file's time and its number of rows.
 pub struct Entry {
     pub time: u64,
