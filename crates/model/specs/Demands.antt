@@ -16,7 +16,8 @@ use Rattle.model.specs.Numbering.{nodeWord}
 use Rattle.model.specs.Tree.{Packed}
 use Rattle.model.specs.Pages.{indexNeed}
 use Rattle.model.specs.Memory.{Memory, State, Lendable, Passable, logOf, keysOf}
-use Rattle.model.specs.Outset.{Held, held, measure, distance, earlierFor, laterFor, outsetFor}
+use Rattle.model.specs.declared.Held.{Held}
+use Rattle.model.specs.Outset.{held, measure, distance, earlierFor, laterFor, outsetFor}
 use Rattle.model.specs.NetChange.{Change, netChange, changesBytes, leads}
 use Rattle.model.specs.Starts.{openOf}
 use Rattle.model.specs.Queries.{tableOf, tableSaid, rowsAt, netOf}

@@ -8,16 +8,11 @@ use lib.Dec.{leb, ltb}
 use Rattle.model.specs.declared.Entry.{Entry}
 use Rattle.model.specs.declared.Side.{Side}
 use Rattle.model.specs.declared.Side.the-variants.{Earlier, Later}
-use Rattle.model.specs.declared.Place.{Place}
+use Rattle.model.specs.declared.Held.{Held}
+use Rattle.model.specs.declared.Chosen.{Chosen}
 use Rattle.model.specs.declared.Place.the-variants.{Empty, Area, Current}
 use Rattle.model.specs.Tree.{pagePosition}
 use Rattle.model.specs.Memory.{State, keysOf}
-
--- a table that is held: its time, where its rows lie and how many they are
-pub record Held : Type 0 where
-  pub time : ℕ
-  pub place : Place
-  pub rows : ℕ
 
 -- "The empty table of time 0 always counts as held"
 abbrev pub emptyTable : Held
@@ -71,12 +66,7 @@ measure st t = pagePosition (keysOf st) t
 abbrev pub distance : (ℕ → ℕ) → ℕ → Held → ℕ
 distance f t h = apart (f t) (f (h .time))
 
--- the outset used, its side and its distance
-pub record Chosen : Type 0 where
-  pub outset : Held
-  pub side : Side
-  pub distance : ℕ
-
+-- the outset used, with its side and its distance
 abbrev pub chosen : (ℕ → ℕ) → ℕ → Held → Side → Chosen
 chosen f t h side = record { outset = h; side = side; distance = distance f t h }
 

@@ -13,7 +13,7 @@ use Rattle.model.specs.Rows.{Row, tableBytes}
 use Rattle.model.specs.Timeslice.{timeslice}
 use Rattle.model.specs.Tree.{pagePosition}
 use Rattle.model.specs.Memory.{Memory, State, logOf, keysOf, sound}
-use Rattle.model.specs.Outset.{Held, Chosen, outsetFor}
+use Rattle.model.specs.Outset.{outsetFor}
 use Rattle.model.specs.NetChange.{Change, netChange, netChangeBytes}
 
 -- "time at most the last? 12"

@@ -122,6 +122,20 @@ pub enum Place {
     Current,
 }
 
+// A table that is held: its time, where its rows lie and how many they are.
+pub struct Held {
+    pub time: u64,
+    pub place: Place,
+    pub rows: u32,
+}
+
+// The outset used for a time, its side and its distance (01's page distance; a count of pages, no position).
+pub struct Chosen {
+    pub outset: Held,
+    pub side: Side,
+    pub distance: u32,
+}
+
 pub enum ViewAnswer {
     Outset {
         place: Place,
