@@ -1,18 +1,15 @@
 -- Laws of `number`, `bytes` and `AreBytes`, over the width: where a number's bytes stand, halves, written and
 -- read back, and which lists are lists of bytes. Assumes nothing.
-use Prim.Native.Nat.{ℕ, zero, suc, _+_, _*_, _-_, _/_, _%_, _^_, _≤_, _<_}
+use Prim.Native.Nat.{ℕ, zero, suc, _+_, _*_, _/_, _%_, _^_, _≤_, _<_}
 use mathlib.Core.Path.{_≡_, refl, sym, ap, _∙_}
-use mathlib.Core.Bool.{Bool, true, false}
 use mathlib.Core.List.{List, [], _∷_, _++_}
 use native.Mathlib.Omega.{arith}
 use native.Mathlib.Nat.{zero-add, add-zero, suc-add, add-suc, add-assoc, one-mul, mul-add, mul-assoc, pow-succ', div-add-mod, mod-lt, pow-le-pow-right, add-comm}
-use lib.ListN.{length, take, drop, getD, replicate, length-append, length-take, List·getD-eq-default, List·getD-append}
+use lib.ListN.{length, take, drop, getD, List·getD-append}
 use lib.Seq.{drop-cons, getD-take, getD-drop, getD-append-add}
-use lib.Dec.{ltb}
-use borrow.Author.Tests.{ltb-true, ltb-false}
 use Rattle.codec.specs.LittleEndian.{number, bytes, AreBytes}
 use Rattle.codec.specs.Parts.{part, put, zeros}
-use Rattle.codec.proofs.PartLaws.{part-put, put-append}
+use Rattle.codec.proofs.PartLaws.{part-put, part-put-within, part-put-before, part-put-after, put-append}
 
 -- ---- halves
 
@@ -106,6 +103,16 @@ pub number-put : (w n : ℕ) (xs : List ℕ) (at : ℕ) → at ≤ length xs →
 number-put w n xs at h k =
     let e : part at w (put xs at (bytes w n)) ≡ bytes w n = ap (λ (m : ℕ). part at m (put xs at (bytes w n))) (sym (length-bytes w n)) ∙ part-put xs at (bytes w n) h in
     number-part w (put xs at (bytes w n)) at ∙ rw e (sym (number-append-left w (bytes w n) [] 0 (rw length-bytes (omega arith))) ∙ number-bytes w n [] k)
+
+-- a number inside what was written, before it and after it
+pub number-put-within : (w i : ℕ) (xs : List ℕ) (at : ℕ) (vs : List ℕ) → at ≤ length xs → i + w ≤ length vs → number w (put xs at vs) (at + i) ≡ number w vs i
+number-put-within w i xs at vs h g = number-of-part w (put xs at vs) (at + i) vs i (part-put-within i w xs at vs h g)
+
+pub number-put-before : (w i : ℕ) (xs : List ℕ) (at : ℕ) (vs : List ℕ) → i + w ≤ at → at ≤ length xs → number w (put xs at vs) i ≡ number w xs i
+number-put-before w i xs at vs h g = number-of-part w (put xs at vs) i xs i (part-put-before i w xs at vs h g)
+
+pub number-put-after : (w i : ℕ) (xs : List ℕ) (at : ℕ) (vs : List ℕ) → at + length vs ≤ i → at ≤ length xs → number w (put xs at vs) i ≡ number w xs i
+number-put-after w i xs at vs h g = number-of-part w (put xs at vs) i xs i (part-put-after i w xs at vs h g)
 
 pub bytes-number : (w : ℕ) (xs : List ℕ) (at : ℕ) → AreBytes xs → at + w ≤ length xs → bytes w (number w xs at) ≡ part at w xs
 unfolding number bytes AreBytes

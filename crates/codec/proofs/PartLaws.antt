@@ -6,10 +6,10 @@ use mathlib.Core.List.{List, [], _∷_, _++_, append-assoc, append-nil}
 use native.Mathlib.Omega.{arith}
 use native.Mathlib.Numerals.{add-one}
 use native.Mathlib.Nat.{zero-add, add-zero, suc-add, add-assoc}
-use lib.ListN.{length, take, drop, getD, set, length-append, length-take, length-drop, take-append-drop, drop-of-length-le}
-use lib.Seq.{length-take-le, take-all, take-nil, drop-nil, take-append-le, drop-append-le, take-append-add, drop-append-add, take-take, drop-drop, take-add, take-at, drop-at, set-split, drop-length, sets, sets-eq}
+use lib.ListN.{length, take, drop, getD, set, length-append, length-drop, length-replicate, take-append-drop, List·getD-append}
+use lib.Seq.{length-take-le, getD-take, getD-drop, take-nil, take-append-le, drop-append-le, take-take, drop-drop, take-add, take-at, drop-at, set-split, drop-length, sets, sets-eq}
 use borrow.Rule.Slice.PartMut.{putMid}
-use Rattle.codec.specs.Parts.{part, put}
+use Rattle.codec.specs.Parts.{zeros, part, put}
 
 module _ {A : Type 0} where
   -- ---- parts
@@ -92,6 +92,21 @@ module _ {A : Type 0} where
   pub part-put-after : (i k : ℕ) (xs : List A) (at : ℕ) (vs : List A) → at + length vs ≤ i → at ≤ length xs → part i k (put xs at vs) ≡ part i k xs
   part-put-after i k xs at vs h g = ap (take k) (drop-put i xs at vs h g)
 
+  -- the same for one element
+  pub getD-put-within : (i : ℕ) (xs : List A) (at : ℕ) (vs : List A) (d : A) → at ≤ length xs → i < length vs → getD (put xs at vs) (at + i) d ≡ getD vs i d
+  getD-put-within i xs at vs d h g =
+      sym (getD-drop at (put xs at vs) i d)
+      ∙ rw (drop-at (take at xs) (vs ++ drop (at + length vs) xs) at (length-take-le at xs h)) (List·getD-append vs _ d i g)
+
+  pub getD-put-before : (i : ℕ) (xs : List A) (at : ℕ) (vs : List A) (d : A) → i < at → at ≤ length xs → getD (put xs at vs) i d ≡ getD xs i d
+  getD-put-before i xs at vs d h g =
+      sym (getD-take at (put xs at vs) i d h) ∙ rw (take-put at xs at vs (omega arith) g) (getD-take at xs i d h)
+
+  pub getD-put-after : (i : ℕ) (xs : List A) (at : ℕ) (vs : List A) (d : A) → at + length vs ≤ i → at ≤ length xs → getD (put xs at vs) i d ≡ getD xs i d
+  getD-put-after i xs at vs d h g =
+      let first : (ys : List A) → getD (drop i ys) 0 d ≡ getD ys i d = λ ys. rw (getD-drop i ys 0 d, add-zero) in
+      sym (first (put xs at vs)) ∙ rw (drop-put i xs at vs h g) (first xs)
+
   -- ---- writes that change nothing, that are one store, or that follow one another
 
   pub put-part : (xs : List A) (at k : ℕ) → at + k ≤ length xs → put xs at (part at k xs) ≡ xs
@@ -161,3 +176,8 @@ module _ {A : Type 0} where
       → putMid a (length xs - a) xs ys ≡ put xs a zs
   put-front a xs zs {ys} h e =
       put-within a (length xs - a) xs 0 zs (omega arith) (omega arith) e ∙ ap (λ (n : ℕ). put xs n zs) (add-zero a)
+
+-- a part that was lent, `&mut xs[a..e]`, and came back filled with zeros
+pub put-zeros : (a e : ℕ) (xs : List ℕ) {ys : List ℕ} → a ≤ e → e ≤ length xs → ys ≡ zeros (length (part a (e - a) xs)) → putMid a (e - a) xs ys ≡ put xs a (zeros (e - a))
+put-zeros a e xs h g q =
+    put-back a (e - a) xs (q ∙ ap zeros (length-part a (e - a) xs (omega arith))) (length-replicate (e - a) 0)

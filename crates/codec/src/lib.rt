@@ -12,45 +12,57 @@ pub fn get16(s: &[u8], at: usize) -> u16
     requires { ⌜ at + 2 ≤ length (now s) ⌝ }
     ensures { λ r. ⌜ r ≡ number 2 (now (s .entry)) at ⌝ }
 {
-    (s[at] as u16) + 256 * (s[at + 1] as u16)
+    let low = s[at] as u16;
+    let high = s[at + 1] as u16;
+    low + 256 * high
 }
 
 pub fn get32(s: &[u8], at: usize) -> u32
     requires { ⌜ at + 4 ≤ length (now s) ⌝ }
     ensures { λ r. ⌜ r ≡ number 4 (now (s .entry)) at ⌝ }
 {
-    (get16(s, at) as u32) + 65536 * (get16(s, at + 2) as u32)
+    let low = get16(s, at) as u32;
+    let high = get16(s, at + 2) as u32;
+    low + 65536 * high
 }
 
 pub fn get64(s: &[u8], at: usize) -> u64
     requires { ⌜ at + 8 ≤ length (now s) ⌝ }
     ensures { λ r. ⌜ r ≡ number 8 (now (s .entry)) at ⌝ }
 {
-    (get32(s, at) as u64) + 4294967296 * (get32(s, at + 4) as u64)
+    let low = get32(s, at) as u64;
+    let high = get32(s, at + 4) as u64;
+    low + 4294967296 * high
 }
 
 pub fn put16(s: &mut [u8], at: usize, x: u16)
     requires { ⌜ at + 2 ≤ length (now s) ⌝ }
     ensures { λ _. ⌜ now (s .exit) ≡ put (now (s .entry)) at (bytes 2 x) ⌝ }
 {
-    s[at] = (x % 256) as u8;
-    s[at + 1] = (x / 256) as u8;
+    let low = (x % 256) as u8;
+    let high = (x / 256) as u8;
+    s[at] = low;
+    s[at + 1] = high;
 }
 
 pub fn put32(s: &mut [u8], at: usize, x: u32)
     requires { ⌜ at + 4 ≤ length (now s) ⌝ }
     ensures { λ _. ⌜ now (s .exit) ≡ put (now (s .entry)) at (bytes 4 x) ⌝ }
 {
-    put16(s, at, (x % 65536) as u16);
-    put16(s, at + 2, (x / 65536) as u16);
+    let low = (x % 65536) as u16;
+    let high = (x / 65536) as u16;
+    put16(s, at, low);
+    put16(s, at + 2, high);
 }
 
 pub fn put64(s: &mut [u8], at: usize, x: u64)
     requires { ⌜ at + 8 ≤ length (now s) ⌝ }
     ensures { λ _. ⌜ now (s .exit) ≡ put (now (s .entry)) at (bytes 8 x) ⌝ }
 {
-    put32(s, at, (x % 4294967296) as u32);
-    put32(s, at + 4, (x / 4294967296) as u32);
+    let low = (x % 4294967296) as u32;
+    let high = (x / 4294967296) as u32;
+    put32(s, at, low);
+    put32(s, at + 4, high);
 }
 
 // ---- filling
@@ -69,10 +81,10 @@ pub fn fill_zero(s: &mut [u8])
 pub fn clear_words(s: &mut [u64])
     ensures { λ _. ⌜ now (s .exit) ≡ zeros (length (now (s .entry))) ⌝ }
 {
-    let mut i = 0;
-    while i < s.len() {
-        s[i] = 0;
-        i += 1;
+    let mut k = 0;
+    while k < s.len() {
+        s[k] = 0;
+        k += 1;
     }
 }
 

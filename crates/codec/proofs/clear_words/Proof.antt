@@ -1,5 +1,5 @@
--- `codec::clear_words` meets its contract. Invariant: the first i words are zero and the rest is as it was. Measure: the words
--- from i on. Assumes nothing.
+-- `codec::clear_words` meets its contract. Invariant: the first k words are zero and the rest is as it was. Measure: the words
+-- from k on. Assumes nothing.
 use Prim.Native.Nat.{_≤_, _-_}
 use mathlib.Core.Path.{_≡_, refl, _∙_}
 use mathlib.Core.List.{_++_, append-nil}
@@ -11,10 +11,10 @@ use Rattle.codec.proofs.clear_words.Statement.{statement}
 use Rattle.codec.proofs.clear_words.Tie as tie
 
 abbrev Inv-loop : tie.InvT-loop
-Inv-loop s₀ i₀ s i = (i ≤ length s) × ((length s ≡ length s₀) × (s ≡ zeros i ++ drop i s₀))
+Inv-loop s₀ k₀ s k = (k ≤ length s) × ((length s ≡ length s₀) × (s ≡ zeros k ++ drop k s₀))
 
 abbrev μ-loop : tie.MeasureT-loop
-μ-loop s₀ i₀ s i = length s₀ - i
+μ-loop s₀ k₀ s k = length s₀ - k
 
 loop-holds : tie.Need-loop-holds Inv-loop μ-loop
 loop-holds c = (omega arith, (refl, refl))
@@ -25,8 +25,8 @@ mul-s c = omega arith
 slice-write-s : tie.Need-slice-write-s Inv-loop μ-loop
 slice-write-s c = omega arith
 
-add-i : tie.Need-add-i Inv-loop μ-loop
-add-i c = omega arith
+add-k : tie.Need-add-k Inv-loop μ-loop
+add-k c = omega arith
 
 loop-less : tie.Need-loop-less Inv-loop μ-loop
 loop-less c = omega arith
@@ -35,7 +35,7 @@ loop-again : tie.Need-loop-again Inv-loop μ-loop
 loop-again c =
     let a = c .before .before .args in
     let l = c .before .loop in
-    (simp length-set (omega arith), (simp length-set (omega arith), rw (l .inv .1 .1) (fill-more (l .i) 0 (a .s .now) (omega arith))))
+    (simp length-set (omega arith), (simp length-set (omega arith), rw (l .inv .1 .1) (fill-more (l .k) 0 (a .s .now) (omega arith))))
 
 same-length : tie.Need-same-length Inv-loop μ-loop
 same-length c = omega arith
@@ -44,7 +44,7 @@ returns : tie.Need-returns Inv-loop μ-loop
 returns c =
     let a = c .before .before .args in
     let l = c .before .loop in
-    let e : l .i ≡ length (a .s .now) = omega arith in
+    let e : l .k ≡ length (a .s .now) = omega arith in
     l .inv .1 .1 ∙ rw (e, drop-of-length-le (a .s .now) {i = length (a .s .now)} (omega arith)) (append-nil (zeros (length (a .s .now))))
 
 pub clear-words-spec : {M : Type 1} → statement M
@@ -56,7 +56,7 @@ clear-words-spec =
     loop-holds
     mul-s
     slice-write-s
-    add-i
+    add-k
     loop-less
     loop-again
     same-length

@@ -8,8 +8,8 @@ use Rattle.codec.proofs.get32.Tie as tie
 get16-requires : tie.Need-get16-requires
 get16-requires c κs = search needs
 
-cast-result : tie.Need-cast-result
-cast-result c = search needs
+cast-low : tie.Need-cast-low
+cast-low c = search needs
 
 add-get16 : tie.Need-add-get16
 add-get16 c = search needs
@@ -17,8 +17,8 @@ add-get16 c = search needs
 get16-requires-2 : tie.Need-get16-requires-2
 get16-requires-2 c κs = search needs
 
-cast-result-2 : tie.Need-cast-result-2
-cast-result-2 c = search needs
+cast-high : tie.Need-cast-high
+cast-high c = search needs
 
 mul-result : tie.Need-mul-result
 mul-result c = search needs
@@ -34,10 +34,10 @@ get32-spec =
     tie.close
     (tie.spec
     get16-requires
-    cast-result
+    cast-low
     add-get16
     get16-requires-2
-    cast-result-2
+    cast-high
     mul-result
     add-result
     returns)

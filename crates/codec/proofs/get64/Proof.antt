@@ -8,8 +8,8 @@ use Rattle.codec.proofs.get64.Tie as tie
 get32-requires : tie.Need-get32-requires
 get32-requires c κs = search needs
 
-cast-result : tie.Need-cast-result
-cast-result c = search needs
+cast-low : tie.Need-cast-low
+cast-low c = search needs
 
 add-get32 : tie.Need-add-get32
 add-get32 c = search needs
@@ -17,8 +17,8 @@ add-get32 c = search needs
 get32-requires-2 : tie.Need-get32-requires-2
 get32-requires-2 c κs = search needs
 
-cast-result-2 : tie.Need-cast-result-2
-cast-result-2 c = search needs
+cast-high : tie.Need-cast-high
+cast-high c = search needs
 
 mul-result : tie.Need-mul-result
 mul-result c = search needs
@@ -34,10 +34,10 @@ get64-spec =
     tie.close
     (tie.spec
     get32-requires
-    cast-result
+    cast-low
     add-get32
     get32-requires-2
-    cast-result-2
+    cast-high
     mul-result
     add-result
     returns)

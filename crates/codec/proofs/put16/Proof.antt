@@ -11,14 +11,14 @@ use native.Mathlib.Omega.{arith}
 use Rattle.codec.proofs.put16.Statement.{statement}
 use Rattle.codec.proofs.put16.Tie as tie
 
-cast-s : tie.Need-cast-s
-cast-s c = search needs
+cast-low : tie.Need-cast-low
+cast-low c = search needs
+
+cast-high : tie.Need-cast-high
+cast-high c = search needs
 
 slice-write-s : tie.Need-slice-write-s
 slice-write-s c = search needs
-
-cast-s-2 : tie.Need-cast-s-2
-cast-s-2 c = search needs
 
 add-s : tie.Need-add-s
 add-s c = search needs
@@ -38,4 +38,4 @@ returns c =
 
 pub put16-spec : {M : Type 1} → statement M
 put16-spec =
-    tie.close (tie.spec cast-s slice-write-s cast-s-2 add-s slice-write-s-2 same-length returns)
+    tie.close (tie.spec cast-low cast-high slice-write-s add-s slice-write-s-2 same-length returns)

@@ -6,17 +6,17 @@ use native.Mathlib.Omega.{arith}
 use Rattle.codec.proofs.put32.Statement.{statement}
 use Rattle.codec.proofs.put32.Tie as tie
 
-cast-put16 : tie.Need-cast-put16
-cast-put16 c = search needs
+cast-low : tie.Need-cast-low
+cast-low c = search needs
+
+cast-high : tie.Need-cast-high
+cast-high c = search needs
 
 put16-requires : tie.Need-put16-requires
 put16-requires c κs = search needs
 
 add-put16 : tie.Need-add-put16
 add-put16 c = search needs
-
-cast-put16-2 : tie.Need-cast-put16-2
-cast-put16-2 c = search needs
 
 put16-requires-2 : tie.Need-put16-requires-2
 put16-requires-2 c κs = search needs
@@ -34,11 +34,4 @@ returns c =
 pub put32-spec : {M : Type 1} → statement M
 put32-spec =
     tie.close
-    (tie.spec
-    cast-put16
-    put16-requires
-    add-put16
-    cast-put16-2
-    put16-requires-2
-    same-length
-    returns)
+    (tie.spec cast-low cast-high put16-requires add-put16 put16-requires-2 same-length returns)

@@ -6,17 +6,17 @@ use native.Mathlib.Omega.{arith}
 use Rattle.codec.proofs.put64.Statement.{statement}
 use Rattle.codec.proofs.put64.Tie as tie
 
-cast-put32 : tie.Need-cast-put32
-cast-put32 c = search needs
+cast-low : tie.Need-cast-low
+cast-low c = search needs
+
+cast-high : tie.Need-cast-high
+cast-high c = search needs
 
 put32-requires : tie.Need-put32-requires
 put32-requires c κs = search needs
 
 add-put32 : tie.Need-add-put32
 add-put32 c = search needs
-
-cast-put32-2 : tie.Need-cast-put32-2
-cast-put32-2 c = search needs
 
 put32-requires-2 : tie.Need-put32-requires-2
 put32-requires-2 c κs = search needs
@@ -34,11 +34,4 @@ returns c =
 pub put64-spec : {M : Type 1} → statement M
 put64-spec =
     tie.close
-    (tie.spec
-    cast-put32
-    put32-requires
-    add-put32
-    cast-put32-2
-    put32-requires-2
-    same-length
-    returns)
+    (tie.spec cast-low cast-high put32-requires add-put32 put32-requires-2 same-length returns)

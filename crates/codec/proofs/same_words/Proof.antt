@@ -1,8 +1,8 @@
 -- `codec::same_words` meets its contract. Invariant: the first 8 * i bytes are equal. Measure: the words from i on.
 -- Assumes nothing.
-use Prim.Native.Nat.{ℕ, _≤_, _-_, _*_, _+_}
-use mathlib.Core.Path.{_≡_, refl, sym, ap, _∙_}
-use lib.ListN.{length, take}
+use Prim.Native.Nat.{_≤_, _-_, _*_, _+_}
+use mathlib.Core.Path.{_≡_, refl, sym, _∙_}
+use lib.ListN.{take}
 use Rattle.codec.specs.LittleEndian.{AreBytes}
 use Rattle.codec.proofs.PartLaws.{take-more, part-of-take}
 use Rattle.codec.proofs.Numbers.{number-of-part, part-of-number}
