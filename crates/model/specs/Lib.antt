@@ -2,6 +2,7 @@ pub mod Answers
 pub mod Settings
 pub mod Records
 pub mod Rows
+pub mod Small
 pub mod Timeslice
 pub mod Carry
 pub mod Legal

@@ -1,0 +1,16 @@
+pub mod Compare
+pub mod RowLaws
+pub mod RowSets
+pub mod SliceLaws
+pub mod UpToLaws
+pub mod SmallLaws
+pub mod ReportLaws
+pub mod LegalLaws
+pub mod WrongLaws
+pub mod TimeLaws
+pub mod WalkLaws
+pub mod KeyLaws
+pub mod PageCounts
+pub mod PageLaws
+pub mod AppendLaws
+pub mod RecordLaws
