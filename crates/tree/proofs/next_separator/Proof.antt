@@ -1,0 +1,135 @@
+-- `tree::next_separator` meets its contract: the open node is as many full runs of nodes before the new leaf as
+-- its words that are taken. Assumes nothing.
+use Prim.Native.Nat.{ℕ, _+_, _-_, _%_, _<_}
+use mathlib.Core.Path.{_≡_, sym, ap, ap₂, _∙_}
+use mathlib.Core.List.{[], _∷_}
+use mathlib.Core.Bool.{false}
+use lib.ListN.{getD, set}
+use borrow.Author.Tests.{ne-eqb}
+use Rattle.model.specs.Shape.{opens, host, cofactor}
+use Rattle.model.specs.Numbering.{leafNode, innerNode, nodeWord}
+use Rattle.tree.specs.Append.{slot}
+use Rattle.tree.proofs.Rooms.{leaf-small, leaf-some, one-fits, one-before, open-low, open-is, open-fits, separator-other}
+use borrow.Author.Needs.{needs}
+use native.Mathlib.Omega.{arith}
+use Rattle.tree.proofs.next_separator.Statement.{statement}
+use Rattle.tree.proofs.next_separator.Tie as tie
+
+not-one : (x y : ℕ) → x ≡ y → 1 < x → y ≡ 1 → ⊥
+not-one x y e l z = omega arith
+
+sub-t11 : tie.Need-sub-t11
+sub-t11 c =
+    let g = c .before .before in
+    let a = g .args in
+    leaf-some (a .d) _ (a .m) (a .leaf .0) (g .pre .0) (g .pre .1 .0)
+
+node-word-requires : tie.Need-node-word-requires
+node-word-requires c κs =
+    let g = c .before .before in
+    let a = g .args in
+    omega (arith, leaf-small (a .d) _ (a .m) (a .leaf .0) (g .pre .0))
+
+sub-s : tie.Need-sub-s
+sub-s c = search needs
+
+cast-s : tie.Need-cast-s
+cast-s c = search needs
+
+add-s : tie.Need-add-s
+add-s c = search needs
+
+mul-s : tie.Need-mul-s
+mul-s c = search needs
+
+slice-read-s : tie.Need-slice-read-s
+slice-read-s c =
+    let g = c .before .before .before .before in
+    let a = g .args in
+    omega (arith, one-fits (a .d) _ (a .m) (a .leaf .0) (g .pre .0) (g .pre .1 .0) (rw (← g .pre .1 .1 .0) (g .pre .1 .1 .1 .0)), c .before .node-word .ensures .0)
+
+sub-slot : tie.Need-sub-slot
+sub-slot c = search needs
+
+sub-t11-2 : tie.Need-sub-t11-2
+sub-t11-2 c =
+    let g = c .before .before .before .before .before in
+    let a = g .args in
+    leaf-some (a .d) _ (a .m) (a .leaf .0) (g .pre .0) (g .pre .1 .0)
+
+mul-t13 : tie.Need-mul-t13
+mul-t13 c =
+    let g = c .before .before .before .before .before in
+    let a = g .args in
+    let l = rw (← g .pre .1 .1 .0, ← g .pre .1 .1 .1 .1) at (open-low (a .d) _ (a .m) (a .leaf .0) (g .pre .0) (g .pre .1 .0) (rw (← g .pre .1 .1 .0) (g .pre .1 .1 .1 .0))) in
+    omega (arith, leaf-small (a .d) _ (a .m) (a .leaf .0) (g .pre .0))
+
+sub-t19 : tie.Need-sub-t19
+sub-t19 c =
+    let g = c .before .before .before .before .before in
+    let a = g .args in
+    rw (g .pre .1 .1 .0, g .pre .1 .1 .1 .1) (open-low (a .d) _ (a .m) (a .leaf .0) (g .pre .0) (g .pre .1 .0) (rw (← g .pre .1 .1 .0) (g .pre .1 .1 .1 .0)))
+
+node-word-requires-2 : tie.Need-node-word-requires-2
+node-word-requires-2 c κs =
+    let g = c .before .before .before .before .before in
+    let a = g .args in
+    omega (arith, leaf-small (a .d) _ (a .m) (a .leaf .0) (g .pre .0))
+
+cast-index : tie.Need-cast-index
+cast-index c = search needs
+
+add-index : tie.Need-add-index
+add-index c = search needs
+
+mul-index : tie.Need-mul-index
+mul-index c = search needs
+
+slice-write-index : tie.Need-slice-write-index
+slice-write-index c =
+    let g = c .before .before .before .before .before .before in
+    let a = g .args in
+    let w2 = c .node-word2 in
+    let e : w2 .result ≡ nodeWord (a .d) (innerNode (a .d) (host (a .d) (a .m))) = w2 .ensures .0 ∙ ap (nodeWord (a .d)) (rw (g .pre .1 .1 .0, g .pre .1 .1 .1 .1) (open-is (a .d) _ (a .m) (a .leaf .0) (g .pre .0) (g .pre .1 .0) (rw (← g .pre .1 .1 .0) (g .pre .1 .1 .1 .0)))) in
+    omega (arith, open-fits (a .d) _ (a .m) (a .leaf .0) (g .pre .0) (g .pre .1 .0) (rw (← g .pre .1 .1 .0) (g .pre .1 .1 .1 .0)))
+
+same-length : tie.Need-same-length
+same-length c = search needs
+
+returns : tie.Need-returns
+unfolding opens slot
+returns c =
+    let g = c .before .before .before .before .before .before in
+    let a = g .args in
+    let w2 = c .node-word2 in
+    let e : w2 .result ≡ nodeWord (a .d) (innerNode (a .d) (host (a .d) (a .m))) = w2 .ensures .0 ∙ ap (nodeWord (a .d)) (rw (g .pre .1 .1 .0, g .pre .1 .1 .1 .1) (open-is (a .d) _ (a .m) (a .leaf .0) (g .pre .0) (g .pre .1 .0) (rw (← g .pre .1 .1 .0) (g .pre .1 .1 .1 .0)))) in
+    let w1 = c .before .before .before .node-word in
+    let xs = a .index .now in
+    let f : w1 .result ≡ nodeWord (a .d) (leafNode (a .d) (a .m - 1)) = w1 .ensures .0 ∙ ap (nodeWord (a .d)) (one-before (a .d) _ (a .m) (a .leaf .0) (g .pre .0) (g .pre .1 .0) (rw (← g .pre .1 .1 .0) (g .pre .1 .1 .1 .0))) in
+    let o : opens (a .d) (a .m) ≡ false = ne-eqb (cofactor (a .d) (a .m) % a .d) 1 (λ z. not-one (a .digit) (cofactor (a .d) (a .m) % a .d) (g .pre .1 .1 .0) (g .pre .1 .1 .1 .0) z) in
+    ap₂ (λ (x y : ℕ). set xs (x + (a .digit - 1)) (getD xs (y + (a .d - 2)) 0)) e f
+    ∙ ap (λ (x : ℕ). set xs (nodeWord (a .d) (innerNode (a .d) (host (a .d) (a .m))) + (x - 1)) (getD xs (nodeWord (a .d) (leafNode (a .d) (a .m - 1)) + (a .d - 2)) 0)) (g .pre .1 .1 .0)
+    ∙ sym (separator-other (nodeWord (a .d)) (a .d) (a .m) xs _ (g .pre .1 .0) o)
+
+pub next-separator-spec : {M : Type 1} → statement M
+next-separator-spec =
+    tie.close
+    (tie.spec
+    sub-t11
+    node-word-requires
+    sub-s
+    cast-s
+    add-s
+    mul-s
+    slice-read-s
+    sub-slot
+    sub-t11-2
+    mul-t13
+    sub-t19
+    node-word-requires-2
+    cast-index
+    add-index
+    mul-index
+    slice-write-index
+    same-length
+    returns)

@@ -1,0 +1,85 @@
+-- `tree::position` meets its contract. Assumes nothing.
+use Prim.Native.Nat.{_-_}
+use mathlib.Core.Path.{refl}
+use native.Mathlib.Nat.{le-trans}
+use Rattle.tree.proofs.Leaves.{leaves-le}
+use Rattle.tree.proofs.Descents.{position-none, position-found, down-top}
+use borrow.Author.Needs.{needs}
+use native.Mathlib.Omega.{arith}
+use Rattle.tree.proofs.position.Statement.{statement}
+use Rattle.tree.proofs.position.Tie as tie
+
+returns : tie.Need-returns
+returns c =
+    let g = c .before .before in
+    let a = g .args in
+    position-none (a .index .now) (a .d) (a .k) (a .t) (c .if1 .taken)
+
+cast-order : tie.Need-cast-order
+cast-order c = search needs
+
+cast-n : tie.Need-cast-n
+cast-n c = search needs
+
+sub-n : tie.Need-sub-n
+sub-n c = search needs
+
+add-n : tie.Need-add-n
+add-n c = search needs
+
+sub-n-2 : tie.Need-sub-n-2
+sub-n-2 c = search needs
+
+div-n : tie.Need-div-n
+div-n c = search needs
+
+top-of-requires : tie.Need-top-of-requires
+top-of-requires c κs =
+    let g = c .before .before in
+    let a = g .args in
+    (g .pre .order-low, (g .pre .order-high, le-trans (leaves-le (a .d) (a .k) (g .pre .order-low)) (g .pre .few)))
+
+cast-descend : tie.Need-cast-descend
+cast-descend c = search needs
+
+descend-requires : tie.Need-descend-requires
+descend-requires c κs =
+    let g = c .before .before .before in
+    let a = g .args in
+    let top = c .top-of in
+    down-top (a .d) (a .k) _ (g .pre) (omega arith) (top .result .level) (top .result .width) (top .result .under) (top .ensures .0) (top .ensures .1 .0) (top .ensures .1 .1)
+
+returns-2 : tie.Need-returns-2
+returns-2 c =
+    let g = c .before .before .before .before .before in
+    let a = g .args in
+    let f = c .before .descend in
+    position-found (a .d) (a .k) _ (g .pre) (omega arith) (a .index .now) (a .t) (f .result) 0 (f .ensures) (omega arith)
+
+sub-t13 : tie.Need-sub-t13
+sub-t13 c = search needs
+
+returns-3 : tie.Need-returns-3
+returns-3 c =
+    let g = c .before .before .before .before .before in
+    let a = g .args in
+    let f = c .before .descend in
+    position-found (a .d) (a .k) _ (g .pre) (omega arith) (a .index .now) (a .t) (f .result) (f .result - 1) (f .ensures) refl
+
+pub position-spec : {M : Type 1} → statement M
+position-spec =
+    tie.close
+    (tie.spec
+    returns
+    cast-order
+    cast-n
+    sub-n
+    add-n
+    sub-n-2
+    div-n
+    top-of-requires
+    cast-descend
+    descend-requires
+    returns-2
+    sub-t13
+    returns-3)

@@ -1,0 +1,64 @@
+-- The descent from node number to node number (01, "Packed tree"): what its calls ask for and what they find.
+-- A node that stands on level l + 1 is over at most d ^ (l + 1) leaves; a level that the right edge skips has
+-- none. Assumes nothing.
+use Prim.Native.Nat.{ℕ, zero, suc, _+_, _-_, _*_, _/_, _^_, _≤_, _<_}
+use mathlib.Core.Path.{_≡_}
+use mathlib.Core.List.{List}
+use lib.ListN.{length}
+use Rattle.model.specs.Numbering.{nodes, leafNode, nodeWord}
+use Rattle.model.specs.Tree.{Packed, Rising, keysUpTo, pagePosition}
+use Rattle.tree.specs.Levels.{innersOver}
+use Rattle.tree.specs.Ranges.{Between}
+
+-- the number of the first leaf below child j of the node over the leaves from number `first` on, `under` nodes
+-- below each word: the node itself is numbered after all of child 0
+abbrev pub childNode : ℕ → ℕ → ℕ → ℕ
+childNode first under zero = first
+childNode first under (suc j) = first + suc j * under + 1
+
+-- leaf a of k keys, its number, in an index of n words
+pub record Leaf (d k n first a : ℕ) : Type 0 where
+  pub order-low : 2 ≤ d
+  pub order-high : d ≤ 64
+  pub few : k ≤ 65536
+  pub number : first ≡ leafNode d a
+  pub there : a * (d - 1) < k
+  pub long : nodes d (a + 1) * (d - 1) ≤ n
+
+-- the node over r leaves of which the first has the number `first`, u leaves below each word and `under` nodes
+pub record Node (d n width u under first r : ℕ) : Type 0 where
+  pub order-low : 2 ≤ d
+  pub order-high : d ≤ 64
+  pub width-is : width ≡ u * d
+  pub some : 0 < u
+  pub more : u < r
+  pub fits : r ≤ width
+  pub small : first + under ≤ 131072
+  pub long : (first + under) * (d - 1) + (d - 1) ≤ n
+
+-- the leaves a to a + r - 1 of k keys, at most as many as the level is wide, on a border of that width
+pub record Down (d k n level width under first a r : ℕ) : Type 0 where
+  pub order-low : 2 ≤ d
+  pub order-high : d ≤ 64
+  pub few : k ≤ 65536
+  pub width-is : width ≡ d ^ level
+  pub under-is : under ≡ innersOver d level
+  pub block : ℕ
+  pub border : a ≡ block * d ^ level
+  pub number : first ≡ leafNode d a
+  pub some : 0 < r
+  pub fits : r ≤ width
+  pub there : (a + r) * (d - 1) < k + (d - 1)
+  pub long : nodes d (a + r) * (d - 1) ≤ n
+
+-- c of the k keys are at most t, if the index holds the packed tree of rising keys and those keys end there
+pub record Found (index : List ℕ) (d k t a r c : ℕ) : Type 0 where
+  pub within : c ≤ k
+  pub counts : (keys : List ℕ) → length keys ≡ k → Rising keys → Packed (nodeWord d) d keys index → Between keys (d - 1) t a r → c ≡ keysUpTo keys t
+
+-- p is the page position of t, if the index holds the packed tree of k rising keys; on any words it is one of
+-- the k positions, or 0
+pub record Position (index : List ℕ) (d k t p : ℕ) : Type 0 where
+  pub packed : (keys : List ℕ) → length keys ≡ k → Rising keys → Packed (nodeWord d) d keys index → p ≡ pagePosition keys t
+  pub within : p ≤ k
+  pub inside : 0 < k → p < k

@@ -1,0 +1,4 @@
+pub mod Levels
+pub mod Append
+pub mod Ranges
+pub mod Descent

@@ -1,0 +1,27 @@
+-- What computed cases look through: the `unfoldable` definitions of codec and model that have values. A case
+-- that says `unfolding computing` is computed to the end. Assumes nothing.
+use Rattle.codec.specs.LittleEndian.{number, bytes}
+use Rattle.codec.specs.Parts.{same}
+use Rattle.model.specs.Answers.{refusal, firstNo, checkedOutcome, verdictOutcome, positionOutcome, tableOutcome, viewOutcome, netChangeOutcome}
+use Rattle.model.specs.Settings.{orderInRange, pageSizeInRange, rowLimitInRange, recordsInRange, settingsOf}
+use Rattle.model.specs.Records.{recordBytes, recordsBytes, recordIn, records, headerBytes}
+use Rattle.model.specs.Rows.{sameRows, lacks, hasRow, countOf, putIn, without, rowBytes, rowsBytes, tableBytes}
+use Rattle.model.specs.Timeslice.{named, table, upTo, timeslice}
+use Rattle.model.specs.Legal.{formed, lastFrom, isUpdate, inTime, allowed, legalNext, legalAfter, legalCount}
+use Rattle.model.specs.Pages.{pageTimesFrom}
+use Rattle.model.specs.Memory.{capacity, headerIs, numbersInRange, logLong, indexLong, tableLong, fits}
+use Rattle.model.specs.Outset.{filesFrom, latest, earliest, chooseBy}
+use Rattle.model.specs.NetChange.{legalOn, changed, leads, missing, placed, arranged, netChange, changeBytes, changesBytes, netChangeBytes}
+use Rattle.model.specs.Starts.{freshMemory, freshOf, wellWritten, openedMemory, openedNumbers, clearedMemory, openOf}
+use Rattle.model.specs.Changes.{appended, insertOf, deleteOf, updateOf}
+use Rattle.model.specs.Queries.{positionOf, tableOf, rowsPart, viewOf, netOf}
+use Rattle.model.specs.Files.{filesIn, areasBytes, isKept, fileIn, keepOf, otherFiles, dropOf}
+use Rattle.model.specs.Audit.{logAudited, tableAudited, indexAudited, filesAudited, entriesZero, restAudited, auditOf}
+use Rattle.model.specs.Calls.{begun, step, run, StartFits, CallFits}
+use Rattle.model.specs.Shape.{valuationUpTo, cofactorUpTo, valuation, cofactor, opens, lastOpened, host, leafWords, takers, innerWords}
+use Rattle.model.specs.Numbering.{opened, nodes, leafNode}
+use Rattle.model.specs.Tree.{allotted, treeOf, withNodes, withTree, withoutNodes, keysUpTo}
+
+unfoldable pub computing : Unit {0}
+unfolding number bytes same refusal firstNo checkedOutcome verdictOutcome positionOutcome tableOutcome viewOutcome netChangeOutcome orderInRange pageSizeInRange rowLimitInRange recordsInRange settingsOf recordBytes recordsBytes recordIn records headerBytes sameRows lacks hasRow countOf putIn without rowBytes rowsBytes tableBytes named table upTo timeslice formed lastFrom isUpdate inTime allowed legalNext legalAfter legalCount pageTimesFrom capacity headerIs numbersInRange logLong indexLong tableLong fits filesFrom latest earliest chooseBy legalOn changed leads missing placed arranged netChange changeBytes changesBytes netChangeBytes freshMemory freshOf wellWritten openedMemory openedNumbers clearedMemory openOf appended insertOf deleteOf updateOf positionOf tableOf rowsPart viewOf netOf filesIn areasBytes isKept fileIn keepOf otherFiles dropOf logAudited tableAudited indexAudited filesAudited entriesZero restAudited auditOf begun step run StartFits CallFits valuationUpTo cofactorUpTo valuation cofactor opens lastOpened host leafWords takers innerWords opened nodes leafNode allotted treeOf withNodes withTree withoutNodes keysUpTo
+computing = tt

@@ -1,0 +1,12 @@
+pub mod Computing
+pub mod Lendables
+pub mod WorkedLog
+pub mod WorkedStore
+pub mod TreeCases
+pub mod RowCases
+pub mod QuestionOne
+pub mod StartCases
+pub mod QuestionCases
+pub mod QueryCases
+pub mod MemoryCases
+pub mod AuditCases
