@@ -24,7 +24,7 @@ use Rattle.tree.proofs.Parts.{drop-put, length-put, length-padded}
 use Rattle.tree.proofs.Packings.{tree-length}
 use Rattle.tree.proofs.Rooms.{placed, leaf-room, inner-room, separator-room}
 use Rattle.tree.proofs.Appends.{append-packed}
-use Rattle.tree.proofs.Written.{with-unique}
+use Rattle.tree.proofs.Written.{length-with, past-with, with-packed, with-unique}
 
 -- no key: no node
 pub packed-none : (at : ℕ → ℕ) (d : ℕ) (xs : List ℕ) → 2 ≤ d → Packed at d [] xs
@@ -39,7 +39,7 @@ words-mono d j k two h =
     mul-le-mul-right (d - 1) (rw e at (nodes-mono d two (leavesOf d j) (leavesOf d k - leavesOf d j)))
 
 -- what lies past fewer words is the same, so what lies past more is
-drop-more : (a b : ℕ) (xs ys : List ℕ) → a ≤ b → drop a xs ≡ drop a ys → drop b xs ≡ drop b ys
+pub drop-more : (a b : ℕ) (xs ys : List ℕ) → a ≤ b → drop a xs ≡ drop a ys → drop b xs ≡ drop b ys
 drop-more a b xs ys h e =
     let n : a + (b - a) ≡ b = omega arith in
     rw (← n, ← drop-drop (b - a) a xs, ← drop-drop (b - a) a ys, e)
@@ -92,12 +92,16 @@ module _ (d : ℕ) (two : 2 ≤ d) where
         by false = set-inside (nodes d (m + 1) * (d - 1)) (nodeWord d (leafNode d m) + k % (d - 1)) x xs (omega (arith, leaf-room d _ m two all, mod-lt k {m = d - 1} (omega arith)))
 
   -- ---- one key more
-  module _ (keys : List ℕ) (x : ℕ) (xs : List ℕ) (room : indexWords d (length keys + 1) ≤ length xs) where
-    next : leavesOf d (length keys + 1) ≡ length keys / (d - 1) + 1
-    next = leaves-next d (length keys) two
 
+  -- whatever the index holds, only nodes that the keys take are written
+  pub append-keeps : (k x : ℕ) (xs : List ℕ) → indexWords d (k + 1) ≤ length xs → Inside (indexWords d (k + 1)) xs (appendOf (nodeWord d) d k x xs)
+  append-keeps k x xs room =
+      let next : leavesOf d (k + 1) ≡ k / (d - 1) + 1 = leaves-next d k two in
+      rw next (append-inside (k / (d - 1)) k x xs refl (rw next at room))
+
+  module _ (keys : List ℕ) (x : ℕ) (xs : List ℕ) (room : indexWords d (length keys + 1) ≤ length xs) where
     pub append-within : Inside (indexWords d (length keys + 1)) xs (appendOf (nodeWord d) d (length keys) x xs)
-    append-within = rw next (append-inside (length keys / (d - 1)) (length keys) x xs refl (rw next at room))
+    append-within = append-keeps (length keys) x xs room
 
     pub append-holds : Packed (nodeWord d) d keys xs → Packed (nodeWord d) d (keys ++ (x ∷ [])) (appendOf (nodeWord d) d (length keys) x xs)
     append-holds h = append-packed (nodeWord d) d two x keys xs (placed d _ _ room) h
@@ -106,6 +110,28 @@ module _ (d : ℕ) (two : 2 ≤ d) where
     append-with h =
         let len : length (keys ++ (x ∷ [])) ≡ length keys + 1 = length-append keys (x ∷ []) in
         with-unique d two (keys ++ (x ∷ [])) xs (rw len room) (appendOf (nodeWord d) d (length keys) x xs) (append-holds h) (rw len (append-within .past))
+
+  -- ---- a tree over a shorter one
+
+  -- the longer tree's nodes are all written again: what the shorter one was written into shows only past them
+  pub with-with : (keys js xs : List ℕ) → indexWords d (length (keys ++ js)) ≤ length xs → withTree d (keys ++ js) (withTree d keys xs) ≡ withTree d (keys ++ js) xs
+  with-with keys js xs room =
+      let more : indexWords d (length keys) ≤ indexWords d (length (keys ++ js)) = words-mono d (length keys) (length (keys ++ js)) two (omega (arith, length-append keys js)) in
+      let short : indexWords d (length keys) ≤ length xs = le-trans more room in
+      let ys = withTree d keys xs in
+      let long : indexWords d (length (keys ++ js)) ≤ length (withTree d keys xs) = rw (length-with d two keys xs short) room in
+      with-unique d two (keys ++ js) xs room (withTree d (keys ++ js) ys) (with-packed d two (keys ++ js) ys long)
+      (past-with d two (keys ++ js) ys long ∙ drop-more (indexWords d (length keys)) (indexWords d (length (keys ++ js))) ys xs more (past-with d two keys xs short))
+
+  -- one key more in an index into which the keys were written
+  pub append-over : (keys : List ℕ) (x : ℕ) (index xs : List ℕ) → indexWords d (length keys + 1) ≤ length xs → index ≡ withTree d keys xs
+      → appendOf (nodeWord d) d (length keys) x index ≡ withTree d (keys ++ (x ∷ [])) xs
+  append-over keys x index xs room e =
+      let more : indexWords d (length keys) ≤ indexWords d (length keys + 1) = words-mono d (length keys) (length keys + 1) two (omega arith) in
+      let short : indexWords d (length keys) ≤ length xs = le-trans more room in
+      let ys = withTree d keys xs in
+      let len : length (keys ++ (x ∷ [])) ≡ length keys + 1 = length-append keys (x ∷ []) in
+      rw e (append-with keys x ys (rw (length-with d two keys xs short) room) (with-packed d two keys xs short) ∙ with-with keys (x ∷ []) xs (rw len room))
 
   -- ---- key after key
   pub record Filled (keys js xs ys : List ℕ) : Type 0 where

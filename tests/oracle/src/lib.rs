@@ -1,0 +1,15 @@
+//! An independent implementation of 01, "The stock history store", to test other ones against.
+//! It is written for plain reading, not for speed: each definition follows a sentence of 01.
+
+pub mod generate;
+pub mod layout;
+pub mod limits;
+pub mod listing;
+pub mod log;
+pub mod net_change;
+pub mod outset;
+pub mod random;
+pub mod samples;
+pub mod store;
+pub mod table;
+pub mod tree;

@@ -1,0 +1,63 @@
+//! Keep and drop a count file (01, "Count files").
+
+use super::{ask, Refusal, Store};
+use crate::outset::Entry;
+use crate::table::{table_bytes, table_length};
+
+/// A count file: its entry and the 8 × R bytes of its area.
+type CountFile = (Entry, Vec<u8>);
+
+impl Store {
+    pub fn keep(&mut self, t: u64) -> Result<(), Refusal> {
+        ask(self.question_1(), 1)?;
+        ask(t <= self.numbers.last, 12)?;
+        ask(t != 0 && !self.is_kept(t), 14)?;
+        ask((self.numbers.files as usize) < self.capacity(), 15)?;
+        let rows = self.rows_at(t);
+        let entry = Entry { time: t, rows: rows.len() as u32 };
+        let mut files = self.count_files();
+        let place = files.iter().filter(|(kept, _)| kept.time < t).count();
+        files.insert(place, (entry, table_bytes(self.numbers.row_limit, &rows)));
+        self.write_count_files(files);
+        Ok(())
+    }
+
+    /// Drop a count file. (The name `drop` is the language's own.)
+    pub fn drop_file(&mut self, t: u64) -> Result<(), Refusal> {
+        ask(self.question_1(), 1)?;
+        ask(self.is_kept(t), 16)?;
+        let mut files = self.count_files();
+        let place = files.iter().position(|(kept, _)| kept.time == t).unwrap();
+        files.remove(place);
+        self.write_count_files(files);
+        let freed = self.numbers.files as usize;
+        self.memory.catalogue[freed] = Entry::default();
+        let area = self.area(freed);
+        self.memory.areas[area].fill(0);
+        Ok(())
+    }
+
+    pub fn is_kept(&self, t: u64) -> bool {
+        self.kept().iter().any(|entry| entry.time == t)
+    }
+
+    /// Area i: 8 × R bytes.
+    pub(crate) fn area(&self, i: usize) -> std::ops::Range<usize> {
+        let length = table_length(self.numbers.row_limit);
+        i * length..(i + 1) * length
+    }
+
+    fn count_files(&self) -> Vec<CountFile> {
+        let file = |(i, entry): (usize, &Entry)| (*entry, self.memory.areas[self.area(i)].to_vec());
+        self.kept().iter().enumerate().map(file).collect()
+    }
+
+    fn write_count_files(&mut self, files: Vec<CountFile>) {
+        self.numbers.files = files.len() as u32;
+        for (i, (entry, bytes)) in files.into_iter().enumerate() {
+            self.memory.catalogue[i] = entry;
+            let area = self.area(i);
+            self.memory.areas[area].copy_from_slice(&bytes);
+        }
+    }
+}

@@ -1,0 +1,89 @@
+//! Stores and answers that several tests use.
+#![allow(dead_code)]
+
+use oracle::layout::Row;
+use oracle::net_change::output_length;
+use oracle::outset::Side;
+use oracle::samples::{log_by_hand, log_of, records_of, Request};
+use oracle::store::{Lengths, Memory, Refusal, Store, TableAnswer};
+use oracle::table::table_length;
+
+/// What a stranger filled the memory with.
+pub const STRANGE: u8 = 0xA5;
+
+/// Room for everything these tests do with a row limit of up to 16.
+pub const AMPLE: Lengths = Lengths { log: 4096, index: 512, table: 160, catalogue: 18, areas: 18 * 128 };
+
+pub fn strange() -> Memory {
+    Memory::filled(AMPLE, STRANGE)
+}
+
+pub fn fresh(order: u16, page_size: u16, row_limit: u32) -> Store {
+    let mut store = Store::over(strange());
+    store.fresh(order, page_size, row_limit).unwrap();
+    store
+}
+
+/// Strange memory with these bytes at the front of the log.
+pub fn memory_with(log: &[u8]) -> Memory {
+    let mut memory = strange();
+    memory.log[..log.len()].copy_from_slice(log);
+    memory
+}
+
+pub fn opened(log: &[u8]) -> Store {
+    let mut store = Store::over(memory_with(log));
+    store.open().unwrap();
+    store
+}
+
+/// 01's log by hand, opened.
+pub fn by_hand() -> Store {
+    opened(&log_by_hand())
+}
+
+pub fn opened_with(order: u16, page_size: u16, row_limit: u32, requests: &[Request]) -> Store {
+    opened(&log_of(order, page_size, row_limit, &records_of(requests)))
+}
+
+/// The number of a refusal that is a number alone.
+pub fn refused<T: std::fmt::Debug>(answer: Result<T, Refusal>) -> u8 {
+    let refusal = answer.unwrap_err();
+    assert_eq!(refusal.record, None);
+    refusal.question
+}
+
+/// Rows and answer of the table of t.
+pub fn table(store: &Store, t: u64) -> (Vec<(u32, u32)>, TableAnswer) {
+    let mut output = vec![STRANGE; table_length(store.numbers.row_limit) + 5];
+    let answer = store.table(t, &mut output).unwrap();
+    let rows = output.chunks(8).take(answer.rows as usize).map(Row::read);
+    (rows.map(|row| (row.article, row.count)).collect(), answer)
+}
+
+pub fn rows(list: &[(u32, u32)]) -> Vec<Row> {
+    list.iter().map(|&(article, count)| Row { article, count }).collect()
+}
+
+/// Side and distance of the table of t.
+pub fn outset(store: &Store, t: u64) -> (Side, u32) {
+    let answer = table(store, t).1;
+    (answer.side, answer.distance)
+}
+
+/// The entries of the net change from a to b as (kind, article, count).
+pub fn net_change(store: &Store, a: u64, b: u64) -> Vec<(u16, u32, u32)> {
+    let mut output = vec![STRANGE; output_length(store.numbers.row_limit) + 5];
+    let mut workspace = vec![STRANGE; 2 * table_length(store.numbers.row_limit) + 5];
+    let entries = store.net_change(a, b, &mut output, &mut workspace).unwrap() as usize;
+    let word = |entry: &[u8], at: usize| u32::from_le_bytes(entry[at..at + 4].try_into().unwrap());
+    output
+        .chunks(12)
+        .take(entries)
+        .map(|entry| {
+            assert_eq!(entry[..2], [12, 0]);
+            assert_eq!(entry[3], 0);
+            (entry[2] as u16, word(entry, 4), word(entry, 8))
+        })
+        .collect()
+}

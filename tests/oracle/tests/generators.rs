@@ -1,0 +1,79 @@
+//! The generators: legal logs are legal and varied; each damage is refused now and then, by the
+//! number it aims at.
+
+use oracle::generate::{case, damages, legal_log, Damage, MOST_LISTED};
+use oracle::listing::{listing, HEADING};
+use oracle::log::{first_wrong, last_time};
+use oracle::random::Random;
+use std::collections::BTreeSet;
+
+#[test]
+fn legal_logs_are_legal_and_varied() {
+    let (mut orders, mut page_sizes, mut row_limits) = (BTreeSet::new(), BTreeSet::new(), BTreeSet::new());
+    let (mut longest, mut latest, mut behind) = (0, 0, 0);
+    for case in 0..2000 {
+        let log = legal_log(&mut Random::for_case(11, case));
+        assert_eq!(first_wrong(log.header.row_limit, &log.records), None);
+        assert_eq!(log.header.last, last_time(&log.records));
+        assert_eq!(log.header.records as usize, log.records.len());
+        assert!(log.header.records <= MOST_LISTED);
+        orders.insert(log.header.order);
+        page_sizes.insert(log.header.page_size);
+        row_limits.insert(log.header.row_limit);
+        longest = longest.max(log.header.records);
+        latest = latest.max(log.header.last);
+        behind += !log.behind.is_empty() as u32;
+    }
+    assert_eq!(orders, (2..=64).collect());
+    assert_eq!(page_sizes, (2..=64).collect());
+    assert!(row_limits.contains(&1) && row_limits.contains(&1024) && row_limits.len() > 100);
+    assert_eq!((longest, latest), (MOST_LISTED, u64::MAX));
+    assert!(behind > 100);
+}
+
+/// The refusals that a damage leads to, over some logs.
+fn refusals(damage: Damage) -> BTreeSet<String> {
+    let outputs = (0..150).map(|case| {
+        let mut random = Random::for_case(13, case);
+        let log = legal_log(&mut random);
+        if log.records.len() > 300 {
+            return String::new();
+        }
+        listing(&damage(&mut random, log))
+    });
+    outputs.filter(|output| output.starts_with("refused")).collect()
+}
+
+#[test]
+fn each_damage_is_refused_as_it_should_be() {
+    for (name, damage) in damages() {
+        let expected = match name {
+            "header length" | "header kind" => "refused 1\n",
+            "order" => "refused 2\n",
+            "page size" => "refused 3\n",
+            "row limit" => "refused 4\n",
+            "too many records in the header" => "refused 5\n",
+            // keys and page positions change, but the log is legal
+            "another order or page size in range" => {
+                assert_eq!(refusals(damage), BTreeSet::new());
+                continue;
+            }
+            _ => "refused 17\n",
+        };
+        assert!(refusals(damage).contains(expected), "{name}");
+    }
+}
+
+#[test]
+fn cases_cover_all_answers() {
+    let mut seen = BTreeSet::new();
+    for number in 0..1500 {
+        let case = case(&mut Random::for_case(12, number));
+        if case.bytes.len() < 10_000 {
+            seen.insert(listing(&case.bytes).lines().next().unwrap().to_string());
+        }
+    }
+    let expected =
+        ["refused 1", "refused 17", "refused 2", "refused 3", "refused 4", "refused 5", HEADING.trim_end()];
+    assert_eq!(seen, expected.map(String::from).into());
+}
