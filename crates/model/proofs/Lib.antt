@@ -14,3 +14,4 @@ pub mod PageCounts
 pub mod PageLaws
 pub mod AppendLaws
 pub mod RecordLaws
+pub mod AuditLaws

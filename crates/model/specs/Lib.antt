@@ -15,6 +15,7 @@ pub mod Changes
 pub mod Queries
 pub mod Files
 pub mod Audit
+pub mod Facts
 pub mod Promises
 pub mod Calls
 pub mod Demands

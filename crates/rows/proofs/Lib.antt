@@ -1,6 +1,6 @@
 pub mod Changes
+pub mod OnTables
 pub mod Places
-pub mod RowFacts
 pub mod Searches
 pub mod TableBytes
 pub mod TableLaws

@@ -1,5 +1,5 @@
--- A table's bytes: their length, where its rows are cut, what stands at each row, and that the rows can be told from
--- them. Assumes nothing.
+-- A table's bytes: their length, where its rows are cut, what stands at each row, and that the rows
+-- can be told from them. Assumes nothing.
 use Prim.Native.Nat.{ℕ, zero, suc, _+_, _*_, _-_, _^_, _≤_, _<_}
 use mathlib.Core.Path.{_≡_, refl, sym, ap, _∙_}
 use mathlib.Core.List.{List, [], _∷_, _++_, append-assoc}
@@ -11,9 +11,9 @@ use Rattle.codec.specs.LittleEndian.{number, bytes, AreBytes}
 use Rattle.codec.specs.Parts.{zeros}
 use Rattle.codec.proofs.Numbers.{length-bytes, number-bytes, number-drop, number-append-right, are-bytes-nil, are-bytes-append, are-bytes-zeros, bytes-are-bytes}
 use Rattle.model.specs.Rows.{Row, row, rowBytes, rowsBytes, tableBytes}
-use Rattle.rows.specs.Small.{RowsBelow, Small}
+use Rattle.model.specs.Small.{RowsBelow, Small}
 use Rattle.rows.specs.Table.{articleAt, countAt, rowAt}
-use Rattle.rows.proofs.RowFacts.{row-eq}
+use Rattle.model.proofs.RowLaws.{row-eq}
 
 -- ---- lengths
 

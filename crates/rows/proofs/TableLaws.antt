@@ -1,5 +1,6 @@
--- What the definitions of specs/Table come to on the bytes of a table, said of its rows: the place, the row and the count of
--- an article, and a row put in, taken out or counted anew. Assumes nothing.
+-- What the definitions of specs/Table come to on the bytes of a table, said of its rows: the place,
+-- the row and the count of an article, and a row put in, taken out or counted anew. Assumes
+-- nothing.
 use Prim.Native.Nat.{ℕ, suc, _+_, _*_, _-_, _≤_, _<_}
 use mathlib.Core.Path.{_≡_, refl, sym, ap, _∙_}
 use mathlib.Core.List.{List, _∷_, _++_, append-assoc}
@@ -13,7 +14,7 @@ use Rattle.codec.specs.LittleEndian.{bytes}
 use Rattle.codec.specs.Parts.{zeros, part}
 use Rattle.codec.proofs.Numbers.{length-bytes}
 use Rattle.model.specs.Rows.{Row, row, lacks, countOf, Ascending, putIn, without, rowBytes, rowsBytes, tableBytes}
-use Rattle.rows.specs.Small.{Small}
+use Rattle.model.specs.Small.{Small}
 use Rattle.rows.specs.Table.{articleAt, countAt, placeOf, isAt, rowPut, rowTaken, countPut, before, recounted, rowAt}
 use Rattle.rows.proofs.Places.{before-le, before-lt, before-has, before-article, before-count, put-at, without-at, recounted-at}
 use Rattle.rows.proofs.Searches.{halves-place}

@@ -91,12 +91,16 @@ module _ (d n m leaf : ℕ) (h : Needed d n m leaf) where
   pub leaf-fits : leaf * (d - 1) + (d - 1) ≤ n
   leaf-fits = rw (h .number) (leaf-room d n m (h .order-low) (h .long))
 
+  -- a node up to the leaf's, by its first word
+  pub node-fits : {w i : ℕ} → w ≡ nodeWord d i → i ≤ leaf → w + (d - 1) ≤ n
+  node-fits {w} {i} e l = omega (arith, mul-le-mul-right (d - 1) l, leaf-fits)
+
+  pub last-fits : {w i : ℕ} → w ≡ nodeWord d i → i ≤ leaf → w + (d - 2) < n
+  last-fits {w} {i} e l = omega (arith, node-fits e l, h .order-low)
+
   module _ (p : 0 < m) where
     pub leaf-some : 1 ≤ leaf
     leaf-some = omega (arith, h .number, leaf-before d (h .order-low) m p)
-
-    pub inner-fits : (leaf - 1) * (d - 1) + (d - 1) ≤ n
-    inner-fits = rw (h .number) (inner-room d n m (h .order-low) (h .long))
 
     module _ (e : cofactor d m % d ≡ 1) where
       pub two-before : leaf - 2 ≡ leafNode d (m - 1)
@@ -105,15 +109,9 @@ module _ (d n m leaf : ℕ) (h : Needed d n m leaf) where
       pub leaf-two : 2 ≤ leaf
       leaf-two = omega (arith, h .number, last-opens d m (h .order-low) p e)
 
-      pub two-fits : (leaf - 2) * (d - 1) + (d - 2) < n
-      two-fits = rw two-before (last-room d n m (h .order-low) (h .long) p)
-
     module _ (e : 1 < cofactor d m % d) where
       pub one-before : leaf - 1 ≡ leafNode d (m - 1)
       one-before = omega (arith, h .number, last-other d m (h .order-low) p (λ z. omega arith))
-
-      pub one-fits : (leaf - 1) * (d - 1) + (d - 2) < n
-      one-fits = rw one-before (last-room d n m (h .order-low) (h .long) p)
 
       -- the open node
       pub open-low : (cofactor d m % d - 1) * fullNodes d (valuation d m) ≤ leaf - 1
@@ -122,9 +120,11 @@ module _ (d n m leaf : ℕ) (h : Needed d n m leaf) where
       pub open-is : leaf - 1 - (cofactor d m % d - 1) * fullNodes d (valuation d m) ≡ innerNode d (host d m)
       open-is = omega (arith, h .number, host-number d m (h .order-low) p)
 
-      pub open-fits : nodeWord d (innerNode d (host d m)) + (cofactor d m % d - 1) < n
-      unfolding slot
-      open-fits = separator-room d n m (h .order-low) (h .long) p
+      -- the leaf is past it
+      pub open-room : nodeWord d (innerNode d (host d m)) + (d - 1) < n
+      open-room =
+          let le : suc (innerNode d (host d m)) ≤ leaf = omega (arith, open-is, leaf-some, h .number) in
+          omega (arith, mul-le-mul-right (d - 1) le, leaf-fits, h .order-low)
 
 -- one key more needs leaf k / (d - 1)
 pub needed-next : (d k n leaf : ℕ) → Room d (k + 1) n → leaf ≡ leafNode d (k / (d - 1)) → Needed d n (k / (d - 1)) leaf

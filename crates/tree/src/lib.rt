@@ -134,9 +134,8 @@ fn next_separator(index: &mut [u64], d: u32, m: u32, leaf: NodeNumber, digit: u3
     ensures { λ _. ⌜ now (index .exit) ≡ separated d m (now (index .entry)) ⌝ }
 {
     let s = index[node_word(d, NodeNumber(leaf.0 - 1)) + ((d - 2) as usize)];
-    let slot = digit - 1;
-    let open = NodeNumber(leaf.0 - 1 - slot * full);
-    index[node_word(d, open) + (slot as usize)] = s;
+    let open = NodeNumber(leaf.0 - 1 - (digit - 1) * full);
+    index[node_word(d, open) + ((digit - 1) as usize)] = s;
 }
 
 // Leaf m is needed: the last key of leaf m - 1 becomes a separator.

@@ -124,7 +124,7 @@ descend-descend-requires t c κs =
     let g = c .before .before .before in
     let a = g .args in
     let h = raised (a .d) (a .k) _ (a .level) (a .width) (a .under) (a .first .0) (a .a) (a .r) (omega arith) (g .pre .1) in
-    (omega arith, down-skip (a .d) (a .k) _ (a .level - 1) (a .width) (a .under) (a .first .0) (a .a) (a .r) h (c .if2 .taken))
+    (omega arith, down-skip (a .d) (a .k) _ (a .level - 1) (a .width) (a .under) (a .first .0) (a .a) (a .r) h (omega arith))
 
 descend-returns-2 : (t : ℕ) → descend-lts.Need-returns-2 (
   in-leaf-reads.Asked,
@@ -156,7 +156,7 @@ descend-in-node-requires t c κs =
     let g = c .before .before .before in
     let a = g .args in
     let h = raised (a .d) (a .k) _ (a .level) (a .width) (a .under) (a .first .0) (a .a) (a .r) (omega arith) (g .pre .1) in
-    down-node (a .d) (a .k) _ (a .level - 1) (a .width) (a .under) (a .first .0) (a .a) (a .r) h (c .if2 .left)
+    down-node (a .d) (a .k) _ (a .level - 1) (a .width) (a .under) (a .first .0) (a .a) (a .r) h (omega arith)
 
 descend-child-node-requires : (t : ℕ) → descend-lts.Need-child-node-requires (
   in-leaf-reads.Asked,

@@ -1,5 +1,5 @@
 -- `tree::append` meets its contract: a new leaf, or the next word of the last one. Assumes nothing.
-use Prim.Native.Nat.{_-_}
+use Prim.Native.Nat.{_-_, _%_}
 use native.Mathlib.Nat.{le-trans, div-le-self, mod-lt}
 use borrow.Author.Tests.{eq-eqb, ne-eqb}
 use Rattle.tree.specs.Append.{appendOf}
@@ -50,7 +50,7 @@ unfolding appendOf
 returns c =
     let g = c .before .before .before .before .before .before .before in
     let a = g .args in
-    rw (eq-eqb _ 0 (c .before .before .before .before .if1 .taken)) (c .before .before .put-leaf .ensures)
+    rw (eq-eqb (a .k % (a .d - 1)) 0 (omega arith)) (c .before .before .put-leaf .ensures)
 
 node-word-requires : tie.Need-node-word-requires
 node-word-requires c κs =
@@ -92,7 +92,7 @@ unfolding appendOf
 returns-2 c =
     let g = c .before .before .before .before in
     let a = g .args in
-    rw (ne-eqb _ 0 (c .before .if1 .left), c .node-word .ensures .0, c .before .before .leaf-node .ensures .0)
+    rw (ne-eqb (a .k % (a .d - 1)) 0 (λ z. absurd (omega arith)), c .node-word .ensures .0, c .before .before .leaf-node .ensures .0)
 
 pub append-spec : {M : Type 1} → statement M
 append-spec =

@@ -48,7 +48,7 @@ loop-again c =
     let a = c .before .before .before .before .args in
     let lp = c .before .before .before .loop in
     let half : ℕ = lp .left / 2 in
-    bracket-up (a .index .now) (a .at) (a .c) (a .t) (lp .low) (lp .left) half (omega arith) (c .if1 .taken) (lp .inv)
+    bracket-up (a .index .now) (a .at) (a .c) (a .t) (lp .low) (lp .left) half (omega arith) (omega arith) (lp .inv)
 
 loop-less-2 : tie.Need-loop-less-2 Inv-loop μ-loop
 loop-less-2 c = search needs
@@ -58,7 +58,7 @@ loop-again-2 c =
     let a = c .before .before .before .before .args in
     let lp = c .before .before .before .loop in
     let half : ℕ = lp .left / 2 in
-    bracket-down (a .index .now) (a .at) (a .c) (a .t) (lp .low) (lp .left) half (omega arith) (c .if1 .left) (lp .inv)
+    bracket-down (a .index .now) (a .at) (a .c) (a .t) (lp .low) (lp .left) half (omega arith) (omega arith) (lp .inv)
 
 returns : tie.Need-returns Inv-loop μ-loop
 returns c =

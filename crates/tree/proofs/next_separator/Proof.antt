@@ -9,7 +9,8 @@ use borrow.Author.Tests.{ne-eqb}
 use Rattle.model.specs.Shape.{opens, host, cofactor}
 use Rattle.model.specs.Numbering.{leafNode, innerNode, nodeWord}
 use Rattle.tree.specs.Append.{slot}
-use Rattle.tree.proofs.Rooms.{leaf-small, leaf-some, one-fits, one-before, open-low, open-is, open-fits, separator-other}
+use Rattle.tree.proofs.Rooms.{leaf-small, leaf-some, one-before, last-fits, open-low, open-is, open-room, separator-other}
+use native.Mathlib.Nat.{mod-lt}
 use borrow.Author.Needs.{needs}
 use native.Mathlib.Omega.{arith}
 use Rattle.tree.proofs.next_separator.Statement.{statement}
@@ -18,11 +19,11 @@ use Rattle.tree.proofs.next_separator.Tie as tie
 not-one : (x y : ℕ) → x ≡ y → 1 < x → y ≡ 1 → ⊥
 not-one x y e l z = omega arith
 
-sub-t11 : tie.Need-sub-t11
-sub-t11 c =
+sub-index : tie.Need-sub-index
+sub-index c =
     let g = c .before .before in
     let a = g .args in
-    leaf-some (a .d) _ (a .m) (a .leaf .0) (g .pre .0) (g .pre .1 .0)
+    omega (arith, leaf-some (a .d) _ (a .m) (a .leaf .0) (g .pre .0) (g .pre .1 .0))
 
 node-word-requires : tie.Need-node-word-requires
 node-word-requires c κs =
@@ -46,26 +47,26 @@ slice-read-s : tie.Need-slice-read-s
 slice-read-s c =
     let g = c .before .before .before .before in
     let a = g .args in
-    omega (arith, one-fits (a .d) _ (a .m) (a .leaf .0) (g .pre .0) (g .pre .1 .0) (rw (← g .pre .1 .1 .0) (g .pre .1 .1 .1 .0)), c .before .node-word .ensures .0)
+    last-fits (a .d) _ (a .m) (a .leaf .0) (g .pre .0) (c .before .node-word .ensures .0) (omega arith)
 
-sub-slot : tie.Need-sub-slot
-sub-slot c = search needs
-
-sub-t11-2 : tie.Need-sub-t11-2
-sub-t11-2 c =
+sub-index-2 : tie.Need-sub-index-2
+sub-index-2 c =
     let g = c .before .before .before .before .before in
     let a = g .args in
-    leaf-some (a .d) _ (a .m) (a .leaf .0) (g .pre .0) (g .pre .1 .0)
+    omega (arith, leaf-some (a .d) _ (a .m) (a .leaf .0) (g .pre .0) (g .pre .1 .0))
 
-mul-t13 : tie.Need-mul-t13
-mul-t13 c =
+sub-index-3 : tie.Need-sub-index-3
+sub-index-3 c = search needs
+
+mul-index : tie.Need-mul-index
+mul-index c =
     let g = c .before .before .before .before .before in
     let a = g .args in
     let l = rw (← g .pre .1 .1 .0, ← g .pre .1 .1 .1 .1) at (open-low (a .d) _ (a .m) (a .leaf .0) (g .pre .0) (g .pre .1 .0) (rw (← g .pre .1 .1 .0) (g .pre .1 .1 .1 .0))) in
     omega (arith, leaf-small (a .d) _ (a .m) (a .leaf .0) (g .pre .0))
 
-sub-t19 : tie.Need-sub-t19
-sub-t19 c =
+sub-index-4 : tie.Need-sub-index-4
+sub-index-4 c =
     let g = c .before .before .before .before .before in
     let a = g .args in
     rw (g .pre .1 .1 .0, g .pre .1 .1 .1 .1) (open-low (a .d) _ (a .m) (a .leaf .0) (g .pre .0) (g .pre .1 .0) (rw (← g .pre .1 .1 .0) (g .pre .1 .1 .1 .0)))
@@ -76,14 +77,17 @@ node-word-requires-2 c κs =
     let a = g .args in
     omega (arith, leaf-small (a .d) _ (a .m) (a .leaf .0) (g .pre .0))
 
+sub-index-5 : tie.Need-sub-index-5
+sub-index-5 c = search needs
+
 cast-index : tie.Need-cast-index
 cast-index c = search needs
 
 add-index : tie.Need-add-index
 add-index c = search needs
 
-mul-index : tie.Need-mul-index
-mul-index c = search needs
+mul-index-2 : tie.Need-mul-index-2
+mul-index-2 c = search needs
 
 slice-write-index : tie.Need-slice-write-index
 slice-write-index c =
@@ -91,7 +95,7 @@ slice-write-index c =
     let a = g .args in
     let w2 = c .node-word2 in
     let e : w2 .result ≡ nodeWord (a .d) (innerNode (a .d) (host (a .d) (a .m))) = w2 .ensures .0 ∙ ap (nodeWord (a .d)) (rw (g .pre .1 .1 .0, g .pre .1 .1 .1 .1) (open-is (a .d) _ (a .m) (a .leaf .0) (g .pre .0) (g .pre .1 .0) (rw (← g .pre .1 .1 .0) (g .pre .1 .1 .1 .0)))) in
-    omega (arith, open-fits (a .d) _ (a .m) (a .leaf .0) (g .pre .0) (g .pre .1 .0) (rw (← g .pre .1 .1 .0) (g .pre .1 .1 .1 .0)))
+    omega (arith, open-room (a .d) _ (a .m) (a .leaf .0) (g .pre .0) (g .pre .1 .0) (rw (← g .pre .1 .1 .0) (g .pre .1 .1 .1 .0)), g .pre .1 .1 .0, mod-lt (cofactor (a .d) (a .m)) {m = a .d} (omega (arith, g .pre .0 .order-low)))
 
 same-length : tie.Need-same-length
 same-length c = search needs
@@ -115,21 +119,22 @@ pub next-separator-spec : {M : Type 1} → statement M
 next-separator-spec =
     tie.close
     (tie.spec
-    sub-t11
+    sub-index
     node-word-requires
     sub-s
     cast-s
     add-s
     mul-s
     slice-read-s
-    sub-slot
-    sub-t11-2
-    mul-t13
-    sub-t19
+    sub-index-2
+    sub-index-3
+    mul-index
+    sub-index-4
     node-word-requires-2
+    sub-index-5
     cast-index
     add-index
-    mul-index
+    mul-index-2
     slice-write-index
     same-length
     returns)

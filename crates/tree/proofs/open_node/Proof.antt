@@ -9,7 +9,7 @@ use borrow.Author.Tests.{eq-eqb}
 use Rattle.codec.specs.Parts.{put}
 use Rattle.model.specs.Shape.{opens, padded}
 use Rattle.model.specs.Numbering.{leafNode, innerNode, nodeWord}
-use Rattle.tree.proofs.Rooms.{leaf-small, leaf-some, leaf-two, two-fits, two-before, inner-fits, node-room, put-node, separator-own}
+use Rattle.tree.proofs.Rooms.{leaf-small, leaf-some, leaf-two, two-before, node-fits, last-fits, node-room, put-node, separator-own}
 use borrow.Author.Needs.{needs}
 use native.Mathlib.Omega.{arith}
 use Rattle.tree.proofs.open_node.Statement.{statement}
@@ -19,7 +19,7 @@ sub-new-node : tie.Need-sub-new-node
 sub-new-node c =
     let g = c .before .before in
     let a = g .args in
-    leaf-two (a .d) _ (a .m) (a .leaf .0) (g .pre .0) (g .pre .1 .0) (g .pre .1 .1)
+    omega (arith, leaf-two (a .d) _ (a .m) (a .leaf .0) (g .pre .0) (g .pre .1 .0) (g .pre .1 .1))
 
 node-word-requires : tie.Need-node-word-requires
 node-word-requires c κs =
@@ -43,13 +43,13 @@ slice-read-s : tie.Need-slice-read-s
 slice-read-s c =
     let g = c .before .before .before .before in
     let a = g .args in
-    omega (arith, two-fits (a .d) _ (a .m) (a .leaf .0) (g .pre .0) (g .pre .1 .0) (g .pre .1 .1), c .before .node-word .ensures .0)
+    last-fits (a .d) _ (a .m) (a .leaf .0) (g .pre .0) (c .before .node-word .ensures .0) (omega arith)
 
 sub-new-node-2 : tie.Need-sub-new-node-2
 sub-new-node-2 c =
     let g = c .before .before .before .before .before in
     let a = g .args in
-    leaf-some (a .d) _ (a .m) (a .leaf .0) (g .pre .0) (g .pre .1 .0)
+    omega (arith, leaf-some (a .d) _ (a .m) (a .leaf .0) (g .pre .0) (g .pre .1 .0))
 
 node-word-requires-2 : tie.Need-node-word-requires-2
 node-word-requires-2 c κs =
@@ -64,13 +64,13 @@ sub-new-node-3 : tie.Need-sub-new-node-3
 sub-new-node-3 c =
     let g = c .before .before .before .before .before .before in
     let a = g .args in
-    omega (arith, inner-fits (a .d) _ (a .m) (a .leaf .0) (g .pre .0) (g .pre .1 .0), c .node-word2 .ensures .0)
+    omega (arith, node-fits (a .d) _ (a .m) (a .leaf .0) (g .pre .0) (c .node-word2 .ensures .0) (omega arith))
 
 part-new-node-start : tie.Need-part-new-node-start
 part-new-node-start c =
     let g = c .before .before .before .before .before .before in
     let a = g .args in
-    omega (arith, inner-fits (a .d) _ (a .m) (a .leaf .0) (g .pre .0) (g .pre .1 .0), c .node-word2 .ensures .0)
+    omega (arith, node-fits (a .d) _ (a .m) (a .leaf .0) (g .pre .0) (c .node-word2 .ensures .0) (omega arith))
 
 part-new-node-end : tie.Need-part-new-node-end
 part-new-node-end c = search needs
@@ -85,7 +85,7 @@ new-node-requires : tie.Need-new-node-requires
 new-node-requires c κs =
     let g = c .before .before .before .before .before .before .before in
     let a = g .args in
-    (omega (arith, g .pre .0 .order-low), node-room (c .before .node-word2 .result) (a .d - 1) (a .index .now) (omega (arith, inner-fits (a .d) _ (a .m) (a .leaf .0) (g .pre .0) (g .pre .1 .0), c .before .node-word2 .ensures .0)))
+    (omega (arith, g .pre .0 .order-low), node-room (c .before .node-word2 .result) (a .d - 1) (a .index .now) (node-fits (a .d) _ (a .m) (a .leaf .0) (g .pre .0) (c .before .node-word2 .ensures .0) (omega arith)))
 
 same-length : tie.Need-same-length
 same-length c = search needs
@@ -102,7 +102,7 @@ returns c =
     let o : opens (a .d) (a .m) ≡ true = eq-eqb _ 1 (g .pre .1 .1) in
     let e : w2 .result ≡ nodeWord (a .d) (innerNode (a .d) (a .m)) = w2 .ensures .0 ∙ ap (λ (n : ℕ). nodeWord (a .d) (n - 1)) (g .pre .0 .number) in
     let f : w1 .result ≡ nodeWord (a .d) (leafNode (a .d) (a .m - 1)) = w1 .ensures .0 ∙ ap (nodeWord (a .d)) (two-before (a .d) _ (a .m) (a .leaf .0) (g .pre .0) (g .pre .1 .0) (g .pre .1 .1)) in
-    put-node (w2 .result) (a .d - 1) s xs (omega (arith, g .pre .0 .order-low)) (omega (arith, inner-fits (a .d) _ (a .m) (a .leaf .0) (g .pre .0) (g .pre .1 .0), w2 .ensures .0)) (c .before .before .new-node .ensures)
+    put-node (w2 .result) (a .d - 1) s xs (omega (arith, g .pre .0 .order-low)) (node-fits (a .d) _ (a .m) (a .leaf .0) (g .pre .0) (w2 .ensures .0) (omega arith)) (c .before .before .new-node .ensures)
     ∙ ap₂ (λ (x y : ℕ). put xs x (padded (a .d - 1) (getD xs (y + (a .d - 2)) 0 ∷ []))) e f ∙ sym (separator-own (nodeWord (a .d)) (a .d) (a .m) xs _ (g .pre .1 .0) o)
 
 pub open-node-spec : {M : Type 1} → statement M

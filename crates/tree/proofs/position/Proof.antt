@@ -1,6 +1,4 @@
 -- `tree::position` meets its contract. Assumes nothing.
-use Prim.Native.Nat.{_-_}
-use mathlib.Core.Path.{refl}
 use native.Mathlib.Nat.{le-trans}
 use Rattle.tree.proofs.Leaves.{leaves-le}
 use Rattle.tree.proofs.Descents.{position-none, position-found, down-top}
@@ -64,7 +62,7 @@ returns-3 c =
     let g = c .before .before .before .before .before in
     let a = g .args in
     let f = c .before .descend in
-    position-found (a .d) (a .k) _ (g .pre) (omega arith) (a .index .now) (a .t) (f .result) (f .result - 1) (f .ensures) refl
+    position-found (a .d) (a .k) _ (g .pre) (omega arith) (a .index .now) (a .t) (f .result) _ (f .ensures) (omega arith)
 
 pub position-spec : {M : Type 1} → statement M
 position-spec =

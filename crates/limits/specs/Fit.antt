@@ -1,0 +1,28 @@
+-- What a yes to question 1, and to the questions of room, tells a caller, as facts that arithmetic can use.
+-- The questions themselves stand in model/specs/Memory and Changes. Assumes nothing.
+use Prim.Native.Nat.{ℕ, _+_, _*_, _≤_}
+use Rattle.model.specs.declared.Numbers.{Numbers}
+use Rattle.model.specs.Pages.{indexNeed}
+use Rattle.model.specs.Memory.{capacity}
+
+-- d, N, R and n are within their limits
+pub record InRange (s : Numbers) : Type 0 where
+  pub order-low : 2 ≤ s .order
+  pub order-high : s .order ≤ 64
+  pub page-low : 2 ≤ s .page
+  pub page-high : s .page ≤ 64
+  pub limit-low : 1 ≤ s .limit
+  pub limit-high : s .limit ≤ 1024
+  pub records-few : s .records ≤ 65536
+
+-- question 1 is answered yes, for memory of these lengths
+pub record Fit (s : Numbers) (log index table entries areas : ℕ) : Type 0 where
+  pub in-range : InRange s
+  pub log-long : 24 + 24 * s .records ≤ log
+  pub index-long : indexNeed (s .order) (s .page) (s .records) ≤ index
+  pub table-long : 8 * s .limit ≤ table
+  pub live-few : s .live ≤ s .limit
+  pub files-few : s .files ≤ capacity (s .limit) entries areas
+  pub files-sixteen : s .files ≤ 16
+  pub files-lent : s .files ≤ entries
+  pub areas-long : 8 * s .limit * s .files ≤ areas

@@ -1,0 +1,3 @@
+pub mod Updates
+pub mod StepLaws
+pub mod StartLaws
