@@ -1,4 +1,5 @@
--- The nodes in the order of allocation, whatever they hold: leaf m is node leafNode d m, and the node that it opened is the one before.
+-- The nodes in the order of allocation, whatever they hold: leaf m is node leafNode d m, and the node that it
+-- opens is the one before. Assumes nothing.
 use Prim.Native.Nat.{ℕ, zero, suc, _+_, _-_, _*_, _^_, _≤_, _<_}
 use mathlib.Core.Path.{_≡_, refl, sym, ap, subst, _∙_}
 use mathlib.Core.Logic.{_⊎_, inl, inr, ⊎-elim}
@@ -14,8 +15,7 @@ use Rattle.model.specs.Tree.{allotted}
 use Rattle.tree.specs.Levels.{innersOver, fullNodes}
 use Rattle.tree.specs.Append.{slot}
 use Rattle.tree.proofs.Orders.{le-or-lt}
-use Rattle.tree.proofs.Numbers.{leaf-in, nodes-mono, opened-le, leaf-child}
-use Rattle.tree.proofs.Hosts.{Place, place, host-at, slot-at, valuation-at}
+use Rattle.tree.proofs.Numbers.{leaf-in, nodes-mono, opened-le}
 
 module _ (d : ℕ) (two : 2 ≤ d) where
   pub opens-opened : (m : ℕ) → opens d m ≡ true → opened d m ≡ 1
@@ -34,7 +34,7 @@ module _ (d : ℕ) (two : 2 ≤ d) where
       by true p = refl
       by false p = absurd (omega arith)
 
-  -- every node is a leaf or was brought by one
+  -- every node is a leaf or was opened by one
   pub node-cases : (n i : ℕ) → i < nodes d n → (m : ℕ) × ((m < n) × ((i ≡ leafNode d m) ⊎ ((opens d m ≡ true) × (i ≡ innerNode d m))))
   unfolding nodes leafNode
   node-cases zero i h = absurd (omega arith)
@@ -85,29 +85,3 @@ module _ (d : ℕ) (two : 2 ≤ d) where
     pub allotted-inner : (m n : ℕ) → m < n → opens d m ≡ true → getD (allotted d inner leaf n) (innerNode d m) [] ≡ inner m
     allotted-inner m n l o =
         rw (inner-node m o) (allotted-kept m n (nodes d m) l (omega (arith, leaf-in d two m (suc m) (le-refl (suc m)), inner-node m o)) ∙ inner-last m o)
-
-  -- the leaf that opened the node of leaf m, by the full runs between the two
-  pub leaf-hosted : (m : ℕ) → 0 < m → leafNode d (host d m) + slot d m * fullNodes d (valuation d m) ≡ leafNode d m
-  unfolding innersOver
-  leaf-hosted m p = subst (λ (n : ℕ). leafNode d (host d n) + slot d n * fullNodes d (valuation d n) ≡ leafNode d n) (sym (pl .is)) there
-    where
-      pl : Place d two m
-      pl = place d two m p
-
-      l : ℕ
-      l = pl .level
-
-      b : ℕ
-      b = pl .block
-
-      i : ℕ
-      i = pl .slot
-
-      there : leafNode d (host d ((b * d + suc i) * d ^ l)) + slot d ((b * d + suc i) * d ^ l) * fullNodes d (valuation d ((b * d + suc i) * d ^ l)) ≡ leafNode d ((b * d + suc i) * d ^ l)
-      there =
-          let a : ℕ = b * d ^ suc l in
-          let e : (b * d + suc i) * d ^ l ≡ a + suc i * d ^ l = omega (arith, ap (λ (n : ℕ). b * n) (pow-suc d l)) in
-          let f : (b * d + 1) * d ^ l ≡ a + 1 * d ^ l = omega (arith, ap (λ (n : ℕ). b * n) (pow-suc d l)) in
-          let one = leaf-child d two l b 0 (omega arith) in
-          let many = leaf-child d two l b i (pl .fits) in
-          rw (host-at d two l b i (pl .fits), slot-at d two l b i (pl .fits), valuation-at d two l b i (pl .fits), e, f) (omega (arith, one, many))

@@ -16,7 +16,8 @@ use Rattle.model.specs.Tree.{Packed}
 use Rattle.tree.specs.Append.{slot, withSeparator, withLeaf, appendOf, Placed}
 use Rattle.tree.proofs.Orders.{le-or-lt}
 use Rattle.tree.proofs.Numbers.{leaf-in}
-use Rattle.tree.proofs.Hosts.{Hosted, hosted, opens-none}
+use Rattle.tree.proofs.Hosts.{opens-none}
+use Rattle.tree.proofs.Takers.{Hosted, hosted}
 use Rattle.tree.proofs.Apart.{leaf-apart, inner-leaf, inner-apart, inner-in}
 use Rattle.tree.proofs.Parts.{part-set-other, part-set-same, part-put-same, part-put-other, length-put, length-padded}
 use Rattle.tree.proofs.Packings.{LeavesAt, ByLeaf, by-leaf, packed, leaves-at}

@@ -15,7 +15,8 @@ use Rattle.tree.specs.Ranges.{Cut, Between}
 use Rattle.tree.specs.Descent.{Leaf, Node, Down, Found, Position, childNode}
 use Rattle.tree.proofs.Counts.{count-none}
 use Rattle.tree.proofs.Leaves.{leaf-there, leaves-low, leaves-high}
-use Rattle.tree.proofs.Numbers.{leaf-in, nodes-mono, leaf-closed, inners-le, leaf-child}
+use Rattle.tree.proofs.Numbers.{leaf-in, nodes-mono, leaf-closed, inners-le}
+use Rattle.tree.proofs.Runs.{leaf-child}
 use Rattle.tree.proofs.Ranges.{between-child, count-in-leaf}
 use Rattle.tree.proofs.Packings.{by-leaf, leaves-at, separators-at}
 
@@ -30,28 +31,6 @@ full-words d u two pos =
     let e : u * d - 1 ≡ (d - 1) * u + (u - 1) = omega (arith, ap (λ (x : ℕ). u * x) n, mul-comm u (d - 1)) in
     rw e (digits-div (d - 1) {m = u} {r = u - 1} (omega arith))
 
--- ---- a leaf
-module _ (d k n first a : ℕ) (h : Leaf d k n first a) where
-  pub leaf-few : a ≤ 65536
-  leaf-few =
-      let one : 1 ≤ d - 1 = omega (arith, h .order-low) in
-      omega (arith, mul-le-mul-left a one, h .there, h .few)
-
-  pub leaf-long : nodeWord d first + (d - 1) ≤ n
-  leaf-long = rw (h .number) (omega (arith, mul-le-mul-right (d - 1) (leaf-in d (h .order-low) a (a + 1) (omega arith)), h .long))
-
-  pub leaf-number : first ≤ 131072
-  leaf-number = omega (arith, h .number, leaf-closed d (h .order-low) a, inners-le d (h .order-low) a, leaf-few)
-
-  pub found-leaf : (xs : List ℕ) (t j : ℕ) → Cut xs (nodeWord d first) (min (d - 1) (k - a * (d - 1))) t j → Found xs d k t a 1 (a * (d - 1) + j)
-  found-leaf xs t j cut = record {
-    within = omega (arith, cut .upto, h .there);
-    counts = λ keys e rising p bt.
-        sym (count-in-leaf keys xs (d - 1) t a (nodeWord d first) j (omega (arith, h .order-low)) rising
-        (λ i l s. subst (λ (x : ℕ). getD xs (nodeWord d x + i) 0 ≡ getD keys (a * (d - 1) + i) 0) (sym (h .number)) (leaves-at (nodeWord d) d (h .order-low) keys xs (by-leaf (nodeWord d) d (h .order-low) keys xs p) a i l s))
-        (subst (λ (x : ℕ). Cut xs (nodeWord d first) (min (d - 1) (x - a * (d - 1))) t j) (sym e) cut) bt);
-  }
-
 -- ---- a node
 module _ (d n width u under first r : ℕ) (h : Node d n width u under first r) where
   pub node-words : (r - 1) / u < d
@@ -59,14 +38,6 @@ module _ (d n width u under first r : ℕ) (h : Node d n width u under first r) 
 
   pub node-long : nodeWord d (first + under) + (r - 1) / u ≤ n
   node-long = omega (arith, node-words, h .long)
-
-pub down-leaf : (d k n width under first a r : ℕ) → Down d k n 0 width under first a r → Leaf d k n first a
-down-leaf d k n width under first a r h =
-    let e : r ≡ 1 = omega (arith, h .fits, h .width-is, pow-zero d, h .some) in
-    record { order-low = h .order-low; order-high = h .order-high; few = h .few; number = h .number; there = omega (arith, rw e at (h .there)); long = rw e at (h .long) }
-
-pub down-one : (d k n width under first a r : ℕ) → Down d k n 0 width under first a r → r ≡ 1
-down-one d k n width under first a r h = omega (arith, h .fits, h .width-is, pow-zero d, h .some)
 
 -- ---- one level down: level suc l, the width of a child d ^ l
 module _ (d k n l width under first a r : ℕ) (h : Down d k n (suc l) width under first a r) where
@@ -218,46 +189,3 @@ module _ (d k n l width under first a r : ℕ) (h : Down d k n (suc l) width und
 -- a level that is not 0
 pub raised : (d k n level width under first a r : ℕ) → 0 < level → Down d k n level width under first a r → Down d k n (suc (level - 1)) width under first a r
 raised d k n level width under first a r up h = subst (λ (x : ℕ). Down d k n x width under first a r) {x = level} {y = suc (level - 1)} (omega arith) h
-
--- ---- the whole tree
-module _ (d k n : ℕ) (h : Room d k n) (p : 0 < k) where
-  pub down-top : (level width under : ℕ) → width ≡ d ^ level → under ≡ innersOver d level → leavesOf d k ≤ width → Down d k n level width under 0 0 (leavesOf d k)
-  down-top level width under e f wide =
-      record {
-        order-low = h .order-low;
-        order-high = h .order-high;
-        few = h .few;
-        width-is = e;
-        under-is = f;
-        block = 0;
-        border = sym (zero-mul (d ^ level));
-        number = omega (arith, leaf-closed d (h .order-low) 0, inners-le d (h .order-low) 0);
-        some = leaf-there d k 0 (h .order-low) (omega arith);
-        fits = wide;
-        there = rw zero-add (leaves-low d k (h .order-low));
-        long = rw zero-add (h .long);
-      }
-
-  between-all : (keys : List ℕ) (t : ℕ) → length keys ≡ k → Between keys (d - 1) t 0 (leavesOf d k)
-  between-all keys t e = record {
-    some = leaf-there d k 0 (h .order-low) (omega arith);
-    there = omega (arith, leaves-low d k (h .order-low));
-    below = λ i l. absurd (omega arith);
-    above = λ i l q. absurd (omega (arith, leaves-high d k (h .order-low)));
-  }
-
-  -- a page position from a number of keys
-  pub position-found : (xs : List ℕ) (t c q : ℕ) → Found xs d k t 0 (leavesOf d k) c → q ≡ c - 1 → Position xs d k t q
-  position-found xs t c q f e = record {
-    packed = λ keys len rising pk. e ∙ ap (λ (x : ℕ). x - 1) (f .counts keys len rising pk (between-all keys t len));
-    within = omega (arith, f .within);
-    inside = λ _. omega (arith, f .within);
-  }
-
--- no key: position 0
-pub position-none : (xs : List ℕ) (d k t : ℕ) → k ≡ 0 → Position xs d k t 0
-position-none xs d k t e = record {
-  packed = λ keys len rising pk. sym (ap (λ (x : ℕ). x - 1) (count-none keys t (len ∙ e)));
-  within = omega arith;
-  inside = λ l. absurd (omega arith);
-}

@@ -10,7 +10,7 @@ use lib.Seq.{take-append-le, drop-append-le, take-all, drop-at}
 use lib.Dec.{eqb}
 use Rattle.model.specs.Shape.{opens, host, padded, leafWords, separator, takers, innerWords}
 use Rattle.tree.specs.Append.{slot}
-use Rattle.tree.proofs.Hosts.{takers-none, takers-one, takers-before, hosted}
+use Rattle.tree.proofs.Takers.{takers-none, takers-one, takers-before, hosted}
 use Rattle.tree.proofs.Parts.{padded-more}
 
 module _ (d : ℕ) (two : 2 ≤ d) (keys : List ℕ) (x : ℕ) where

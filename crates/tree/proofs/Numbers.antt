@@ -1,24 +1,16 @@
--- The packed numbering in closed form: leaf m is node m + inners d m.
+-- The packed numbering in closed form: leaf m is node m + inners d m. The nodes that were opened are counted turn
+-- by turn of d leaves, and so level by level. Assumes nothing.
 use Prim.Native.Nat.{ℕ, zero, suc, _+_, _-_, _*_, _/_, _%_, _^_, _≤_, _<_, min, zero-le, suc-le-suc}
 use mathlib.Core.Path.{_≡_, refl, sym, ap, ap₂, _∙_}
 use mathlib.Core.Bool.{Bool, true, false, cond}
 use native.Mathlib.Omega.{arith}
-use native.Mathlib.Nat.{zero-div, zero-mod, div-add-mod', mod-lt, le-refl, zero-mul, add-zero, zero-add, add-suc, pow-zero, pow-suc, pow-succ', div-one, div-div-eq-div-mul, div-lt-iff-lt-mul, mul-add-div-right, mul-lt-mul-of-pos-right, one-le-pow, mul-comm}
+use native.Mathlib.Nat.{zero-div, zero-mod, div-add-mod', mod-lt, le-refl, zero-mul, add-zero, zero-add, add-suc, pow-zero, pow-succ', div-one, div-div-eq-div-mul}
 use lib.Arith.{digits-div, digits-mod}
 use borrow.Author.Tests.{ne-eqb}
 use Rattle.model.specs.Shape.{cofactorUpTo, cofactor, opens}
 use Rattle.model.specs.Numbering.{opened, nodes, leafNode}
-use Rattle.tree.specs.Levels.{inners, innersUpTo, sumOf, innersOver, fullNodes}
+use Rattle.tree.specs.Levels.{inners, innersUpTo, sumOf}
 use Rattle.tree.proofs.Valuations.{cofactor-none, cofactor-mul, div-less}
-
--- the inner nodes over a full run, level by level
-pub over-zero : (d : ℕ) → innersOver d 0 ≡ 0
-unfolding innersOver
-over-zero d = refl
-
-pub over-step : (d l : ℕ) → innersOver d (suc l) ≡ d ^ l + innersOver d l
-unfolding innersOver
-over-step d l = refl
 
 pub not-opened : (d m : ℕ) → opens d m ≡ false → opened d m ≡ 0
 unfolding opened
@@ -54,19 +46,19 @@ module _ (d : ℕ) (two : 2 ≤ d) where
       let e = digits-mod x {m = d} {r = f} k in
       rw (cofactor-none d two (x * d + f) (λ z. omega (arith, e)), e, ne-eqb f 1 (λ z. omega arith))
 
-  -- the inner nodes that the leaves up to m bring
-  brought : ℕ → ℕ
-  brought zero = 0
-  brought (suc m) = brought m + opened d (suc m)
+  -- the inner nodes that the leaves up to m opened
+  openedUpTo : ℕ → ℕ
+  openedUpTo zero = 0
+  openedUpTo (suc m) = openedUpTo m + opened d (suc m)
 
-  leaf-brought : (m : ℕ) → leafNode d m ≡ m + brought m
-  unfolding leafNode nodes brought
-  leaf-brought zero = rw (zero-add (opened d 0)) opened-zero
-  leaf-brought (suc m) = omega (arith, leaf-brought m)
+  leaf-opened : (m : ℕ) → leafNode d m ≡ m + openedUpTo m
+  unfolding leafNode nodes openedUpTo
+  leaf-opened zero = rw (zero-add (opened d 0)) opened-zero
+  leaf-opened (suc m) = omega (arith, leaf-opened m)
 
-  -- in a turn of d leaves the first after x * d opened a node of level 1, and no other
-  turn : (x f : ℕ) → suc f < d → brought (x * d + suc f) ≡ suc (brought (x * d))
-  unfolding brought
+  -- in a turn of d leaves the first after x * d opens a node of level 1, and no other
+  turn : (x f : ℕ) → suc f < d → openedUpTo (x * d + suc f) ≡ suc (openedUpTo (x * d))
+  unfolding openedUpTo
   turn x zero h =
       let e : x * d + 1 ≡ suc (x * d) = omega arith in
       let b : opened d (suc (x * d)) ≡ 1 = rw e at (opened-one x) in
@@ -76,9 +68,9 @@ module _ (d : ℕ) (two : 2 ≤ d) where
       let b : opened d (suc (x * d + suc f)) ≡ 0 = rw e at (opened-more x (suc (suc f)) (omega arith) h) in
       rw e (omega (arith, b, turn x f (omega arith)))
 
-  -- and the last opened what leaf x would bring, a level lower
-  turns : (x : ℕ) → brought (x * d) ≡ x + brought x
-  unfolding brought
+  -- and the last opens what leaf x would open, a level lower
+  turns : (x : ℕ) → openedUpTo (x * d) ≡ x + openedUpTo x
+  unfolding openedUpTo
   turns zero = rw zero-mul
   turns (suc x) =
       let e : suc x * d ≡ suc (x * d + suc (d - 2)) = omega arith in
@@ -86,7 +78,7 @@ module _ (d : ℕ) (two : 2 ≤ d) where
       rw e (omega (arith, b, turn x (d - 2) (omega arith), turns x))
 
   -- hence by levels
-  step : (x f : ℕ) → f < d → brought (x * d + f) ≡ (x * d + f + (d - 1)) / d + brought x
+  step : (x f : ℕ) → f < d → openedUpTo (x * d + f) ≡ (x * d + f + (d - 1)) / d + openedUpTo x
   step x zero h =
       let c : (x * d + (d - 1)) / d ≡ x = digits-div x {m = d} {r = d - 1} (omega arith) in
       rw (add-zero, c) (turns x)
@@ -95,8 +87,8 @@ module _ (d : ℕ) (two : 2 ≤ d) where
       let c : (suc x * d + f) / d ≡ suc x = digits-div (suc x) {m = d} {r = f} (omega arith) in
       rw (e, c) (omega (arith, turn x f h, turns x))
 
-  by-levels : (f m : ℕ) → m ≤ f → innersUpTo d f m ≡ brought m
-  unfolding innersUpTo brought
+  by-levels : (f m : ℕ) → m ≤ f → innersUpTo d f m ≡ openedUpTo m
+  unfolding innersUpTo openedUpTo
   by-levels zero zero h = refl
   by-levels zero (suc m) h = absurd (omega arith)
   by-levels (suc f) m h =
@@ -109,16 +101,16 @@ module _ (d : ℕ) (two : 2 ≤ d) where
 
   pub leaf-closed : (m : ℕ) → leafNode d m ≡ m + inners d m
   unfolding inners
-  leaf-closed m = rw (by-levels m m (le-refl m)) (leaf-brought m)
+  leaf-closed m = rw (by-levels m m (le-refl m)) (leaf-opened m)
 
-  brought-le : (m : ℕ) → brought m ≤ m
-  unfolding brought
-  brought-le zero = le-refl 0
-  brought-le (suc m) = omega (arith, brought-le m, opened-le (suc m))
+  opened-up-to-le : (m : ℕ) → openedUpTo m ≤ m
+  unfolding openedUpTo
+  opened-up-to-le zero = le-refl 0
+  opened-up-to-le (suc m) = omega (arith, opened-up-to-le m, opened-le (suc m))
 
   pub inners-le : (m : ℕ) → inners d m ≤ m
   unfolding inners
-  inners-le m = rw (by-levels m m (le-refl m)) (brought-le m)
+  inners-le m = rw (by-levels m m (le-refl m)) (opened-up-to-le m)
 
   -- one level of the closed form
   pub inners-step : (m : ℕ) → inners d m ≡ (m + (d - 1)) / d + inners d (m / d)
@@ -153,66 +145,9 @@ module _ (d : ℕ) (two : 2 ≤ d) where
       same zero g h e = refl
       same (suc f) g h e = ap₂ (λ (x y : ℕ). x + y) (e 0) (same f (λ l. g (suc l)) (λ l. h (suc l)) (λ l. e (suc l)))
 
-  -- ---- under a node of level 1 + l numbers repeat: a descent can carry them along
-  inners-turn : (x f : ℕ) → f < d → inners d (x * d + f) ≡ (x * d + f + (d - 1)) / d + inners d x
+  -- one level, by the last digit
+  pub inners-turn : (x f : ℕ) → f < d → inners d (x * d + f) ≡ (x * d + f + (d - 1)) / d + inners d x
   inners-turn x f h = rw (digits-div x {m = d} {r = f} h) at (inners-step (x * d + f))
-
-  pub inners-add : (l b x : ℕ) → x < d ^ l → inners d (b * d ^ l + x) ≡ inners d (b * d ^ l) + inners d x
-  inners-add zero b x h =
-      let e : x ≡ 0 = omega (arith, pow-zero d) in
-      rw (e, add-zero) (omega (arith, inners-le 0))
-  inners-add (suc l) b x h =
-      let u = d ^ l in
-      let y : ℕ = x / d in
-      let f : ℕ = x % d in
-      let fl : f < d = mod-lt x (omega arith) in
-      let s : y * d + f ≡ x = div-add-mod' x d in
-      let yl : y < u = div-lt-iff-lt-mul {k = d} {x = x} {y = u} (omega arith) .1 (rw pow-suc at h) in
-      let whole : b * d ^ suc l + x ≡ (b * u + y) * d + f = omega (arith, ap (λ (n : ℕ). b * n) (pow-suc d l)) in
-      let full : b * d ^ suc l ≡ b * u * d + 0 = omega (arith, ap (λ (n : ℕ). b * n) (pow-suc d l)) in
-      let k : (b * u + y) * d + f + (d - 1) ≡ b * u * d + (y * d + f + (d - 1)) = omega arith in
-      let c : ((b * u + y) * d + f + (d - 1)) / d ≡ b * u + (y * d + f + (d - 1)) / d = rw k (mul-add-div-right (omega arith) (b * u) (y * d + f + (d - 1))) in
-      let z : (b * u * d + 0 + (d - 1)) / d ≡ b * u = rw add-zero (digits-div (b * u) {m = d} {r = d - 1} (omega arith)) in
-      let own = rw s at (inners-turn y f fl) in
-      rw (whole, full) (omega (arith, inners-turn (b * u + y) f fl, c, inners-turn (b * u) 0 (omega arith), z, own, ap (λ (n : ℕ). (n + (d - 1)) / d) s, inners-add l b y yl))
-
-  pub leaf-add : (l b x : ℕ) → x < d ^ l → leafNode d (b * d ^ l + x) ≡ leafNode d (b * d ^ l) + leafNode d x
-  leaf-add l b x h = omega (arith, leaf-closed (b * d ^ l + x), leaf-closed (b * d ^ l), leaf-closed x, inners-add l b x h)
-
-  -- the inner nodes over a full run of d ^ l leaves
-  pub inners-run : (l j : ℕ) → j < d - 1 → inners d (suc j * d ^ l) ≡ suc j * innersOver d l + 1
-  unfolding innersOver
-  inners-run zero j h =
-      let e : suc j * d ^ 0 ≡ 0 * d + suc j = omega (arith, ap (λ (n : ℕ). suc j * n) (pow-zero d)) in
-      let k : 0 * d + suc j + (d - 1) ≡ 1 * d + j = omega arith in
-      let c : (0 * d + suc j + (d - 1)) / d ≡ 1 = rw k (digits-div 1 {m = d} {r = j} (omega arith)) in
-      rw e (omega (arith, inners-turn 0 (suc j) (omega arith), inners-le 0, c))
-  inners-run (suc l) j h =
-      let e : suc j * d ^ suc l ≡ suc j * d ^ l * d + 0 = omega (arith, ap (λ (n : ℕ). suc j * n) (pow-suc d l)) in
-      let z : (suc j * d ^ l * d + 0 + (d - 1)) / d ≡ suc j * d ^ l = rw add-zero (digits-div (suc j * d ^ l) {m = d} {r = d - 1} (omega arith)) in
-      rw e (omega (arith, inners-turn (suc j * d ^ l) 0 (omega arith), z, inners-run l j h))
-
-  pub run-closed : (l : ℕ) → innersOver d l * (d - 1) + 1 ≡ d ^ l
-  unfolding innersOver
-  run-closed zero = rw (zero-mul, pow-zero)
-  run-closed (suc l) =
-      let n : d ≡ suc (d - 1) = omega arith in
-      let e : d ^ l * d ≡ d ^ l * suc (d - 1) = ap (λ (k : ℕ). d ^ l * k) n in
-      rw pow-suc (omega (arith, run-closed l, e))
-
-  -- child j + 1 of the node over the leaves from b * d ^ suc l on: its first leaf, by the first leaf of all
-  pub leaf-child : (l b j : ℕ) → j < d - 1 → leafNode d (b * d ^ suc l + suc j * d ^ l) ≡ leafNode d (b * d ^ suc l) + suc j * innersOver d (suc l) + 1
-  unfolding innersOver
-  leaf-child l b j h =
-      let below : suc j * d ^ l < d ^ suc l = rw pow-suc (omega (arith, mul-lt-mul-of-pos-right {m = suc j} {n = d} {k = d ^ l} (omega arith) (one-le-pow l d (omega arith)))) in
-      omega (arith, leaf-add (suc l) b (suc j * d ^ l) below, leaf-closed (suc j * d ^ l), inners-run l j h)
-
-  pub run-step : (l : ℕ) → innersOver d (suc l) ≡ d * innersOver d l + 1
-  unfolding innersOver
-  run-step l =
-      let n : d ≡ suc (d - 1) = omega arith in
-      let e : d * innersOver d l ≡ suc (d - 1) * innersOver d l = ap (λ (k : ℕ). k * innersOver d l) n in
-      omega (arith, run-closed l, e)
 
   -- ---- for the code
   -- a division rounded up, by the division and what it leaves
@@ -229,15 +164,6 @@ module _ (d : ℕ) (two : 2 ≤ d) where
 
   pub inners-level : (m : ℕ) → inners d m ≡ m / d + min (m % d) 1 + inners d (m / d)
   inners-level m = omega (arith, inners-step m, ceiling m)
-
-  -- the nodes of a full run of the next width
-  pub full-step : (l : ℕ) → fullNodes d (suc l) ≡ fullNodes d l * d + 1
-  unfolding innersOver
-  full-step l = omega (arith, run-step (suc l), mul-comm d (d ^ l + innersOver d l))
-
-  pub full-zero : fullNodes d 0 ≡ 1
-  unfolding innersOver
-  full-zero = rw pow-zero
 
   -- the leaf before leaf m, and whether m opens a node
   pub leaf-before : (m : ℕ) → 0 < m → leafNode d (m - 1) + 1 + opened d m ≡ leafNode d m

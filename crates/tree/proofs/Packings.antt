@@ -14,7 +14,8 @@ use Rattle.model.specs.Tree.{treeOf, Packed}
 use Rattle.tree.proofs.Orders.{le-or-lt}
 use Rattle.tree.proofs.Numbers.{leaf-in}
 use Rattle.tree.proofs.Leaves.{leaf-there}
-use Rattle.tree.proofs.Hosts.{start, opens-at, opens-start, takers-get, takers-fit}
+use Rattle.tree.proofs.Hosts.{start, opens-at}
+use Rattle.tree.proofs.Takers.{opens-start, takers-get, takers-fit}
 use Rattle.tree.proofs.Parts.{length-padded}
 use Rattle.tree.proofs.Allotments.{allotted-length, allotted-leaf, allotted-inner, node-cases}
 

@@ -1,4 +1,5 @@
--- A part of w words of a list that is written elsewhere, or there.
+-- A part of w words of a list that is written elsewhere, or there; new nodes and zeros word by word. Assumes
+-- nothing.
 use Prim.Native.Nat.{ℕ, suc, _+_, _-_, _≤_, _<_}
 use mathlib.Core.Path.{_≡_, refl, sym, ap, ap₂, _∙_}
 use mathlib.Core.Logic.{_⊎_, ⊎-elim}

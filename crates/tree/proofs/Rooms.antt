@@ -1,4 +1,5 @@
--- What the code that writes needs to know of addresses.
+-- What the code that writes needs to know of addresses: that they lie in the index, and which nodes they are.
+-- Assumes nothing.
 use Prim.Native.Nat.{ℕ, zero, suc, _+_, _-_, _*_, _/_, _%_, _^_, _≤_, _<_, zero-le, suc-le-suc}
 use mathlib.Core.Path.{_≡_, refl, sym, ap, ap₂, _∙_}
 use mathlib.Core.Logic.{inl, inr, ⊎-elim}
@@ -18,9 +19,11 @@ use Rattle.tree.specs.Append.{slot, withSeparator, withLeaf, Placed, Nee
 use Rattle.tree.proofs.Orders.{le-or-lt}
 use Rattle.tree.proofs.Valuations.{cofactor-odd}
 use Rattle.tree.proofs.Numbers.{leaf-in, leaf-before, not-opened, leaf-closed, inners-le}
-use Rattle.tree.proofs.Allotments.{opens-opened, leaf-hosted}
+use Rattle.tree.proofs.Allotments.{opens-opened}
+use Rattle.tree.proofs.Runs.{leaf-hosted}
 use Rattle.tree.proofs.Leaves.{leaves-next}
-use Rattle.tree.proofs.Hosts.{hosted, host-le, opens-none}
+use Rattle.tree.proofs.Hosts.{host-le, opens-none}
+use Rattle.tree.proofs.Takers.{hosted}
 use Rattle.tree.proofs.Parts.{length-padded}
 
 pub word-fits : (n d : ℕ) → n ≤ 131073 → d ≤ 64 → nodeWord d n ≤ 131073 * 63

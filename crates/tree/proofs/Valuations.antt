@@ -1,4 +1,5 @@
--- How often d divides m, and what is left: the laws of `valuation` and `cofactor` without their fuel.
+-- How often d divides m, and what is left: the laws of `valuation` and `cofactor` without their fuel. Assumes
+-- nothing.
 use Prim.Native.Nat.{ℕ, zero, suc, _*_, _/_, _%_, _^_, _≤_, _<_, zero-le, suc-le-suc}
 use mathlib.Core.Path.{_≡_, refl, sym, ap, _∙_, subst}
 use mathlib.Core.Bool.{Bool, true, false, cond}

@@ -1,9 +1,12 @@
+// The packed tree of order d over page times (01, "Packed tree"): one key more, the position of a time, the words
+// that it takes, and its nodes cleared. A node's place is computed and never stored: `leaf_node` numbers a leaf,
+// `node_word` is the one address of a node, and everything else goes from node number to node number.
 ghost use mathlib.Core.Path.{_≡_};
 ghost use mathlib.Core.List.{_∷_, [], _++_};
 ghost use Prim.Native.Nat.{_+_, _-_, _*_, _/_, _%_, _≤_, _<_, _^_, min};
 ghost use lib.ListN.{length, drop};
 ghost use Rattle.codec.specs.Parts.{zeros};
-ghost use Rattle.model.specs.Shape.{cofactor, valuation, padded, leavesOf};
+ghost use Rattle.model.specs.Shape.{cofactor, valuation, padded};
 ghost use Rattle.model.specs.Numbering.{leafNode, nodeWord};
 ghost use Rattle.model.specs.Tree.{nodesOf, indexWords, withoutNodes};
 ghost use Rattle.tree.specs.Levels.{inners, innersOver, fullNodes, Room};

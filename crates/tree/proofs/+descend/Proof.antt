@@ -2,7 +2,8 @@
 -- edge skips adds nothing. Measure: the level. Assumes nothing.
 use mathlib.Core.Path.{sym, subst}
 use Rattle.tree.specs.Descent.{Found}
-use Rattle.tree.proofs.Descents.{raised, down-leaf, down-one, down-skip, down-node, down-child, found-child, under-low, leaves-few, child-small, child-inside}
+use Rattle.tree.proofs.Descents.{raised, down-skip, down-node, down-child, found-child, under-low, leaves-few, child-small, child-inside}
+use Rattle.tree.proofs.Positions.{down-leaf, down-one}
 use borrow.Author.Needs.{needs}
 use native.Mathlib.Omega.{arith}
 use Prim.Native.Nat.{ℕ, _-_, _<_}

@@ -3,7 +3,7 @@ use Prim.Native.Nat.{ℕ, _-_, _*_, min}
 use mathlib.Core.Path.{_≡_, subst}
 use Rattle.model.specs.Numbering.{nodeWord}
 use Rattle.tree.specs.Ranges.{Cut}
-use Rattle.tree.proofs.Descents.{leaf-number, leaf-long, found-leaf}
+use Rattle.tree.proofs.Positions.{leaf-number, leaf-long, found-leaf}
 use borrow.Author.Needs.{needs}
 use native.Mathlib.Omega.{arith}
 use Rattle.tree.proofs.in_leaf.Statement.{statement}

@@ -1,3 +1,4 @@
+-- `tree::leaf_node` meets its contract, by the closed form. Assumes nothing.
 use borrow.Author.Needs.{needs}
 use native.Mathlib.Omega.{arith}
 use Rattle.tree.proofs.Numbers.{leaf-closed}

@@ -1,3 +1,5 @@
+-- `tree::new_node` meets its contract. Invariant: the first i words are the new node's, the others as they were.
+-- Measure: the words that are left. Assumes nothing.
 use borrow.Author.Needs.{needs}
 use Prim.Native.Nat.{ℕ, _≤_, _<_, _-_}
 use mathlib.Core.Path.{_≡_, refl, ap, _∙_}

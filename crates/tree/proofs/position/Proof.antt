@@ -1,7 +1,7 @@
 -- `tree::position` meets its contract. Assumes nothing.
 use native.Mathlib.Nat.{le-trans}
 use Rattle.tree.proofs.Leaves.{leaves-le}
-use Rattle.tree.proofs.Descents.{position-none, position-found, down-top}
+use Rattle.tree.proofs.Positions.{position-none, position-found, down-top}
 use borrow.Author.Needs.{needs}
 use native.Mathlib.Omega.{arith}
 use Rattle.tree.proofs.position.Statement.{statement}

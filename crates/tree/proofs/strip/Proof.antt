@@ -8,7 +8,7 @@ use native.Mathlib.Nat.{le-refl, mul-le-mul-left, mul-le-mul-right, mul-le-mul, 
 use Rattle.model.specs.Shape.{cofactor, valuation}
 use Rattle.tree.specs.Levels.{fullNodes}
 use Rattle.tree.proofs.Valuations.{valuation-div, cofactor-div, valuation-none, cofactor-none, div-pos}
-use Rattle.tree.proofs.Numbers.{full-zero, full-step}
+use Rattle.tree.proofs.Runs.{full-zero, full-step}
 use Rattle.tree.proofs.strip.Statement.{statement}
 use Rattle.tree.proofs.strip.Tie as tie
 

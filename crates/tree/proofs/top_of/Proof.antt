@@ -5,7 +5,7 @@ use mathlib.Core.Path.{_≡_, sym, ap₂, _∙_}
 use native.Mathlib.Nat.{pow-zero, pow-suc, add-comm, mul-le-mul-left}
 use native.Mathlib.Numerals.{add-one}
 use Rattle.tree.specs.Levels.{innersOver}
-use Rattle.tree.proofs.Numbers.{over-zero, over-step}
+use Rattle.tree.proofs.Runs.{over-zero, over-step}
 use borrow.Author.Needs.{needs}
 use native.Mathlib.Omega.{arith}
 use Rattle.tree.proofs.top_of.Statement.{statement}

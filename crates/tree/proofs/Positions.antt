@@ -1,0 +1,91 @@
+-- Where a descent ends and where it starts: in a leaf, and at the top of all leaves; and the page position that
+-- its count of keys gives. Assumes nothing.
+use Prim.Native.Nat.{ℕ, _+_, _-_, _*_, _^_, _≤_, _<_, min}
+use mathlib.Core.Path.{_≡_, sym, ap, _∙_, subst}
+use mathlib.Core.List.{List}
+use native.Mathlib.Omega.{arith}
+use native.Mathlib.Nat.{mul-le-mul-right, mul-le-mul-left, pow-zero, zero-mul, zero-add}
+use lib.ListN.{length, getD}
+use Rattle.model.specs.Shape.{leavesOf}
+use Rattle.model.specs.Numbering.{nodes, leafNode, nodeWord}
+use Rattle.tree.specs.Levels.{innersOver, Room}
+use Rattle.tree.specs.Ranges.{Cut, Between}
+use Rattle.tree.specs.Descent.{Leaf, Down, Found, Position}
+use Rattle.tree.proofs.Leaves.{leaf-there, leaves-low, leaves-high}
+use Rattle.tree.proofs.Counts.{count-none}
+use Rattle.tree.proofs.Ranges.{count-in-leaf}
+use Rattle.tree.proofs.Numbers.{leaf-in, leaf-closed, inners-le}
+use Rattle.tree.proofs.Packings.{by-leaf, leaves-at}
+
+-- ---- a leaf
+module _ (d k n first a : ℕ) (h : Leaf d k n first a) where
+  pub leaf-few : a ≤ 65536
+  leaf-few =
+      let one : 1 ≤ d - 1 = omega (arith, h .order-low) in
+      omega (arith, mul-le-mul-left a one, h .there, h .few)
+
+  pub leaf-long : nodeWord d first + (d - 1) ≤ n
+  leaf-long = rw (h .number) (omega (arith, mul-le-mul-right (d - 1) (leaf-in d (h .order-low) a (a + 1) (omega arith)), h .long))
+
+  pub leaf-number : first ≤ 131072
+  leaf-number = omega (arith, h .number, leaf-closed d (h .order-low) a, inners-le d (h .order-low) a, leaf-few)
+
+  pub found-leaf : (xs : List ℕ) (t j : ℕ) → Cut xs (nodeWord d first) (min (d - 1) (k - a * (d - 1))) t j → Found xs d k t a 1 (a * (d - 1) + j)
+  found-leaf xs t j cut = record {
+    within = omega (arith, cut .upto, h .there);
+    counts = λ keys e rising p bt.
+        sym (count-in-leaf keys xs (d - 1) t a (nodeWord d first) j (omega (arith, h .order-low)) rising
+        (λ i l s. subst (λ (x : ℕ). getD xs (nodeWord d x + i) 0 ≡ getD keys (a * (d - 1) + i) 0) (sym (h .number)) (leaves-at (nodeWord d) d (h .order-low) keys xs (by-leaf (nodeWord d) d (h .order-low) keys xs p) a i l s))
+        (subst (λ (x : ℕ). Cut xs (nodeWord d first) (min (d - 1) (x - a * (d - 1))) t j) (sym e) cut) bt);
+  }
+
+pub down-leaf : (d k n width under first a r : ℕ) → Down d k n 0 width under first a r → Leaf d k n first a
+down-leaf d k n width under first a r h =
+    let e : r ≡ 1 = omega (arith, h .fits, h .width-is, pow-zero d, h .some) in
+    record { order-low = h .order-low; order-high = h .order-high; few = h .few; number = h .number; there = omega (arith, rw e at (h .there)); long = rw e at (h .long) }
+
+pub down-one : (d k n width under first a r : ℕ) → Down d k n 0 width under first a r → r ≡ 1
+down-one d k n width under first a r h = omega (arith, h .fits, h .width-is, pow-zero d, h .some)
+
+-- ---- the whole tree
+module _ (d k n : ℕ) (h : Room d k n) (p : 0 < k) where
+  pub down-top : (level width under : ℕ) → width ≡ d ^ level → under ≡ innersOver d level → leavesOf d k ≤ width → Down d k n level width under 0 0 (leavesOf d k)
+  down-top level width under e f wide =
+      record {
+        order-low = h .order-low;
+        order-high = h .order-high;
+        few = h .few;
+        width-is = e;
+        under-is = f;
+        block = 0;
+        border = sym (zero-mul (d ^ level));
+        number = omega (arith, leaf-closed d (h .order-low) 0, inners-le d (h .order-low) 0);
+        some = leaf-there d k 0 (h .order-low) (omega arith);
+        fits = wide;
+        there = rw zero-add (leaves-low d k (h .order-low));
+        long = rw zero-add (h .long);
+      }
+
+  between-all : (keys : List ℕ) (t : ℕ) → length keys ≡ k → Between keys (d - 1) t 0 (leavesOf d k)
+  between-all keys t e = record {
+    some = leaf-there d k 0 (h .order-low) (omega arith);
+    there = omega (arith, leaves-low d k (h .order-low));
+    below = λ i l. absurd (omega arith);
+    above = λ i l q. absurd (omega (arith, leaves-high d k (h .order-low)));
+  }
+
+  -- a page position from a number of keys
+  pub position-found : (xs : List ℕ) (t c q : ℕ) → Found xs d k t 0 (leavesOf d k) c → q ≡ c - 1 → Position xs d k t q
+  position-found xs t c q f e = record {
+    packed = λ keys len rising pk. e ∙ ap (λ (x : ℕ). x - 1) (f .counts keys len rising pk (between-all keys t len));
+    within = omega (arith, f .within);
+    inside = λ _. omega (arith, f .within);
+  }
+
+-- no key: position 0
+pub position-none : (xs : List ℕ) (d k t : ℕ) → k ≡ 0 → Position xs d k t 0
+position-none xs d k t e = record {
+  packed = λ keys len rising pk. sym (ap (λ (x : ℕ). x - 1) (count-none keys t (len ∙ e)));
+  within = omega arith;
+  inside = λ l. absurd (omega arith);
+}
