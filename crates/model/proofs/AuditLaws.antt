@@ -1,9 +1,8 @@
 -- What the audit's yes means, by name, and that these facts are all it asks. Assumes nothing.
-use Prim.Native.Nat.{ℕ, zero, suc, _+_, _-_, _*_, _/_, _≤_, _<_, min}
-use mathlib.Core.Path.{_≡_, refl, sym, ap, _∙_}
+use Prim.Native.Nat.{ℕ, zero, suc, _+_, _-_, _*_, _/_, _≤_}
+use mathlib.Core.Path.{_≡_, refl, ap, _∙_}
 use mathlib.Core.List.{List, [], _∷_}
-use mathlib.Core.Bool.{Bool, true, false, not, _&&_, _||_, false≢true}
-use native.Mathlib.Omega.{arith}
+use mathlib.Core.Bool.{Bool, true, false, not, _&&_, _||_}
 use native.Mathlib.Nat.{min-le-left, min-le-right, le-trans}
 use lib.ListN.{length, take, drop, replicate, length-drop}
 use lib.Seq.{length-take-le}
@@ -12,20 +11,19 @@ use borrow.Author.Tests.{leb-true, le-leb, ltb-true, lt-ltb, eqb-true, eq-eqb}
 use Rattle.codec.specs.Parts.{same}
 use Rattle.codec.proofs.Sameness.{same-true, same-of-equal}
 use Rattle.model.specs.declared.Entry.{Entry}
-use Rattle.model.specs.declared.Numbers.{Numbers}
 use Rattle.model.specs.Settings.{orderInRange, pageSizeInRange, rowLimitInRange, recordsInRange}
-use Rattle.model.specs.Records.{Rec, records, recordsOf, headerBytes}
+use Rattle.model.specs.Records.{records, recordsOf, headerBytes}
 use Rattle.model.specs.Rows.{tableBytes}
 use Rattle.model.specs.Timeslice.{timeslice}
 use Rattle.model.specs.Legal.{legal, lastFrom, lastTime}
 use Rattle.model.specs.Pages.{indexNeed}
 use Rattle.model.specs.Tree.{withTree}
-use Rattle.model.specs.Memory.{Memory, State, noEntry, logOf, rowsNow, keysOf, sound, fits, numbersInRange, logLong, indexLong, tableLong, headerIs, capacity, capacityOf}
+use Rattle.model.specs.Memory.{State, noEntry, logOf, rowsNow, keysOf, sound, fits, numbersInRange, logLong, indexLong, tableLong, headerIs, capacity, capacityOf}
 use Rattle.model.specs.Files.{File, filesOf}
 use Rattle.model.specs.Audit.{auditOf, logAudited, tableAudited, indexAudited, filesAudited, entriesZero, restAudited, Audited}
 use Rattle.model.proofs.Compare.{and-left, and-right, and-both}
 use Rattle.model.proofs.TimeLaws.{timeslice-rows}
-use Rattle.model.specs.Facts.{FileIs, FilesAre, InLimits, AuditedFacts}
+use Rattle.model.specs.Facts.{FilesAre, InLimits, AuditedFacts}
 
 -- ---- capacity
 

@@ -1,0 +1,113 @@
+-- Files in order, each the table of its time: a file more, a file fewer, and the zero entries behind them. Assumes nothing.
+use Prim.Native.Nat.{ℕ, zero, suc, _+_, _-_, _≤_, _<_}
+use mathlib.Core.Path.{_≡_, refl, sym, ap, _∙_}
+use mathlib.Core.List.{List, [], _∷_, _++_, append-assoc, map}
+use mathlib.Core.Bool.{Bool, true, false, cond, _||_, false≢true}
+use native.Mathlib.Omega.{arith}
+use lib.ListN.{length, take, drop, replicate, length-append, length-map, length-replicate, replicate-append-replicate}
+use lib.Seq.{drop-at, drop-drop}
+use lib.Dec.{ltb, eqb}
+use borrow.Author.Tests.{ltb-true, ltb-false, eqb-false}
+use Rattle.codec.specs.Parts.{put}
+use Rattle.codec.proofs.PartLaws.{take-put-past}
+use Rattle.model.specs.declared.Entry.{Entry}
+use Rattle.model.specs.Records.{Rec}
+use Rattle.model.specs.Memory.{noEntry}
+use Rattle.model.specs.Files.{File, noFile, entryOf, isKept, fileIn, otherFiles}
+use Rattle.model.specs.Facts.{FileIs, FilesAre}
+use Rattle.claims.proofs.FileLists.{map-append}
+
+-- ---- a file more
+
+pub length-file-in : (f : File) (fs : List File) → length (fileIn f fs) ≡ suc (length fs)
+unfolding fileIn
+length-file-in f [] = refl
+length-file-in f (x ∷ xs) = by (length-file-in f xs) (ltb (x .entry .time) (f .entry .time))
+  where
+    by : length (fileIn f xs) ≡ suc (length xs) → (t : Bool) → length (cond t (x ∷ fileIn f xs) (f ∷ (x ∷ xs))) ≡ suc (suc (length xs))
+    by ih true = ap suc ih
+    by ih false = refl
+
+module _ (R last : ℕ) (rs : List Rec) where
+  from-later : {before b' : ℕ} {f : File} → FileIs R last rs before f → b' < f .entry .time → FileIs R last rs b' f
+  from-later h l = record { later = l; held = h .held; rows-are = h .rows-are; area-is = h .area-is }
+
+  pub files-with : (f : File) (before : ℕ) (fs : List File) → FileIs R last rs before f → isKept (f .entry .time) fs ≡ false → FilesAre R last rs before fs
+      → FilesAre R last rs before (fileIn f fs)
+  unfolding FilesAre fileIn isKept
+  files-with f before [] new free h = (new, tt)
+  files-with f before (x ∷ xs) new free h = by (ltb (x .entry .time) (f .entry .time)) refl (files-with f (x .entry .time) xs) (eqb (x .entry .time) (f .entry .time)) refl free
+    where
+      by : (t : Bool) → ltb (x .entry .time) (f .entry .time) ≡ t
+          → (FileIs R last rs (x .entry .time) f → isKept (f .entry .time) xs ≡ false → FilesAre R last rs (x .entry .time) xs → FilesAre R last rs (x .entry .time) (fileIn f xs))
+          → (k : Bool) → eqb (x .entry .time) (f .entry .time) ≡ k → (k || isKept (f .entry .time) xs) ≡ false
+          → FilesAre R last rs before (cond t (x ∷ fileIn f xs) (f ∷ (x ∷ xs)))
+      by t e ih true q g = absurd (false≢true (sym g))
+      by true e ih false q g = (h .0, ih (from-later new (ltb-true _ _ e)) g (h .1))
+      by false e ih false q g =
+          let up : f .entry .time ≤ x .entry .time = ltb-false _ _ e in
+          let other = eqb-false (x .entry .time) (f .entry .time) q in
+          (new, (from-later (h .0) (above (x .entry .time) (f .entry .time) up other), h .1))
+        where
+          above : (a b : ℕ) → b ≤ a → (a ≡ b → ⊥) → b < a
+          above a b l n = by-test (ltb b a) refl
+            where
+              by-test : (t : Bool) → ltb b a ≡ t → b < a
+              by-test true e = ltb-true _ _ e
+              by-test false e = let m : a ≤ b = ltb-false _ _ e in absurd (n (omega arith))
+
+  -- ---- a file fewer
+
+  pub files-without : (t before b' : ℕ) (fs : List File) → b' ≤ before → FilesAre R last rs before fs → FilesAre R last rs b' (otherFiles t fs)
+  unfolding FilesAre otherFiles
+  files-without t before b' [] l h = tt
+  files-without t before b' (x ∷ xs) l h = by (eqb (x .entry .time) t) (files-without t (x .entry .time) b' xs (omega (arith, h .0 .later)) (h .1)) (files-without t (x .entry .time) (x .entry .time) xs (omega arith) (h .1))
+    where
+      by : (q : Bool) → FilesAre R last rs b' (otherFiles t xs) → FilesAre R last rs (x .entry .time) (otherFiles t xs)
+          → FilesAre R last rs b' (cond q (otherFiles t xs) (x ∷ otherFiles t xs))
+      by true a b = a
+      by false a b = (from-later (h .0) (omega (arith, h .0 .later)), b)
+
+pub length-other-files : (t : ℕ) (fs : List File) → length (otherFiles t fs) ≤ length fs
+unfolding otherFiles
+length-other-files t [] = omega arith
+length-other-files t (x ∷ xs) = by (length-other-files t xs) (eqb (x .entry .time) t)
+  where
+    by : length (otherFiles t xs) ≤ length xs → (q : Bool) → length (cond q (otherFiles t xs) (x ∷ otherFiles t xs)) ≤ suc (length xs)
+    by ih true = omega arith
+    by ih false = omega arith
+
+-- ---- zero entries behind them
+
+pub drop-replicate : {A : Type 0} (k n : ℕ) (x : A) → drop k (replicate n x) ≡ replicate (n - k) x
+drop-replicate zero n x = let e : n ≡ n - 0 = omega arith in ap (λ (j : ℕ). replicate j x) e
+drop-replicate (suc k) zero x = let e : 0 ≡ 0 - suc k = omega arith in ap (λ (j : ℕ). replicate j x) e
+drop-replicate (suc k) (suc n) x = let e : n - k ≡ suc n - suc k = omega arith in drop-replicate k n x ∙ ap (λ (j : ℕ). replicate j x) e
+
+pub map-replicate : {A B : Type 0} (f : A → B) (n : ℕ) (x : A) → map f (replicate n x) ≡ replicate n (f x)
+map-replicate f zero x = refl
+map-replicate f (suc n) x = rw (map-replicate f n x)
+
+-- of a catalogue with zero entries from `files` up to its capacity, the front overwritten by files and by no files
+pub rest-back : (R : ℕ) (catalogue : List Entry) (slots files : ℕ) (gs : List File) (j : ℕ) → files ≤ length gs + j → length gs + j ≤ slots
+    → drop files (take slots catalogue) ≡ replicate (slots - files) noEntry
+    → drop (length gs) (take slots (put catalogue 0 (map entryOf (gs ++ replicate j (noFile R))))) ≡ replicate (slots - length gs) noEntry
+rest-back R catalogue slots files gs j low high zero-rest =
+    let n = length gs in
+    let es = map entryOf (gs ++ replicate j (noFile R)) in
+    let front = take slots catalogue in
+    let is : es ≡ map entryOf gs ++ replicate j noEntry = map-append entryOf gs (replicate j (noFile R)) ∙ ap (λ (xs : List Entry). map entryOf gs ++ xs) (map-replicate entryOf j (noFile R)) in
+    let long : length es ≡ n + j = length-map (gs ++ replicate j (noFile R)) entryOf ∙ length-append gs (replicate j (noFile R)) ∙ rw (length-replicate j (noFile R)) in
+    let ends : 0 + length es ≡ n + j = omega arith in
+    let split : n + j ≡ files + (n + j - files) = omega arith in
+    let left : slots - files - (n + j - files) ≡ slots - (n + j) = omega arith in
+    let behind : drop (n + j) (take slots catalogue) ≡ replicate (slots - (n + j)) noEntry =
+    ap (λ (k : ℕ). drop k front) split ∙ sym (drop-drop (n + j - files) files front) ∙ ap (drop (n + j - files)) zero-rest
+    ∙ drop-replicate (n + j - files) (slots - files) noEntry ∙ ap (λ (k : ℕ). replicate k noEntry) left in
+    let whole : take slots (put catalogue 0 es) ≡ map entryOf gs ++ (replicate j noEntry ++ replicate (slots - (n + j)) noEntry) =
+    take-put-past slots catalogue 0 es (omega arith) (omega arith)
+    ∙ ap (λ (k : ℕ). es ++ drop k front) ends ∙ rw (behind, is) (append-assoc (map entryOf gs) (replicate j noEntry) (replicate (slots - (n + j)) noEntry)) in
+    let sum : j + (slots - (n + j)) ≡ slots - n = omega arith in
+    rw whole
+    (drop-at (map entryOf gs) (replicate j noEntry ++ replicate (slots - (n + j)) noEntry) n (length-map gs entryOf)
+    ∙ replicate-append-replicate {A = Entry} j (slots - (n + j)) noEntry ∙ ap (λ (k : ℕ). replicate k noEntry) sum)

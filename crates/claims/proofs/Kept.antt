@@ -1,0 +1,206 @@
+-- Keep and drop of a state in order leave one in order. Assumes nothing.
+use Prim.Native.Nat.{ℕ, zero, suc, _+_, _-_, _*_, _≤_, _<_}
+use mathlib.Core.Path.{_≡_, refl, _∙_}
+use mathlib.Core.List.{List, [], _∷_, _++_, append-nil, map}
+use mathlib.Core.Bool.{false, not, _&&_}
+use native.Mathlib.Omega.{arith}
+use native.Mathlib.Nat.{min-le-left, le-trans, le-div-iff-mul-le, mul-comm, mul-le-mul-right}
+use lib.ListN.{length, take, replicate, length-append, length-map, length-replicate}
+use lib.Seq.{length-take-le}
+use lib.Dec.{leb, ltb, eqb}
+use borrow.Author.Tests.{leb-true, ltb-true, eqb-false, not-true}
+use Rattle.codec.proofs.Numbers.{are-bytes-put}
+use Rattle.codec.proofs.PartLaws.{length-put}
+use Rattle.model.specs.Answers.{question, firstNo}
+use Rattle.model.specs.Records.{headerBytes}
+use Rattle.model.specs.Memory.{State, state, logOf, sound, capacity, capacityOf}
+use Rattle.model.specs.Files.{File, filesOf, noFile, areasBytes, entryOf, withFiles, withCount, isKept, keepQuestions, fileIn, fileAt, keepOf, otherFiles, dropOf}
+use Rattle.model.proofs.Compare.{and-left, and-right}
+use Rattle.model.specs.Facts.{FileIs, FilesAre, AuditedFacts, InOrder}
+use Rattle.model.proofs.AuditLaws.{audited-facts, audited-of-facts, capacity-entries, capacity-areas}
+use Rattle.claims.proofs.Regions.{asked, entries-put, entries-of-lendable}
+use Rattle.claims.proofs.FileLists.{FilesFit, files-fit, files-fit-append, no-files-fit, entries-of-files, bytes-of-files, length-areas, length-files-in, files-back}
+use Rattle.claims.proofs.FilesKept.{length-file-in, files-with, files-without, length-other-files, rest-back}
+
+pub capacity-few : (R entries bytes : ℕ) → capacity R entries bytes ≤ 16
+unfolding capacity
+capacity-few R entries bytes = min-le-left 16 _
+
+-- whole areas of the capacity lie within the areas lent
+pub areas-within : (R entries bytes : ℕ) → 1 ≤ R → 8 * R * capacity R entries bytes ≤ bytes
+areas-within R entries bytes some =
+    rw (mul-comm (8 * R) (capacity R entries bytes))
+    (le-div-iff-mul-le {k = 8 * R} {x = capacity R entries bytes} {y = bytes} (omega arith) .0 (capacity-areas R entries bytes))
+
+-- a state holds as many files as its number says
+pub length-files : (st : State) → AuditedFacts st → length (filesOf st) ≡ st .numbers .files
+length-files st f =
+    let m = st .memory in
+    length-files-in (st .numbers .limit) (m .areas) 0 (take (st .numbers .files) (m .catalogue))
+    ∙ length-take-le (st .numbers .files) (m .catalogue) (le-trans (f .limits .files-few) (capacity-entries (st .numbers .limit) (length (m .catalogue)) (length (m .areas))))
+
+-- ---- other files, and no files behind them, in place of those that were there
+
+module _ (st : State) (o : InOrder st) (gs : List File) (j : ℕ)
+    (are : FilesAre (st .numbers .limit) (st .numbers .last) (logOf st) 0 gs)
+    (low : st .numbers .files ≤ length gs + j) (high : length gs + j ≤ capacityOf (st .numbers .limit) (st .memory)) where
+  abbrev R : ℕ
+  R = st .numbers .limit
+
+  abbrev all : List File
+  all = gs ++ replicate j (noFile (st .numbers .limit))
+
+  abbrev other : State
+  other = state (withCount (st .numbers) (length gs)) (withFiles all (st .memory))
+
+  facts : AuditedFacts st
+  facts = audited-facts st (o .audited)
+
+  gs-fit : FilesFit (st .numbers .limit) gs
+  gs-fit = files-fit R (st .numbers .last) (logOf st) (facts .log-legal) (o .passable .last-fits) (facts .limits .limit-high) 0 gs are
+
+  all-fit : FilesFit (st .numbers .limit) all
+  all-fit = files-fit-append R gs (replicate j (noFile R)) gs-fit (no-files-fit R j)
+
+  all-long : length all ≡ length gs + j
+  all-long = length-append gs (replicate j (noFile R)) ∙ rw (length-replicate j (noFile R))
+
+  entries-long : length (other .memory .catalogue) ≡ length (st .memory .catalogue)
+  entries-long =
+      length-put (st .memory .catalogue) 0 (map entryOf all)
+      (omega (arith, length-map all entryOf, all-long, capacity-entries R (length (st .memory .catalogue)) (length (st .memory .areas))))
+
+  areas-long : length (other .memory .areas) ≡ length (st .memory .areas)
+  areas-long =
+      let slots = capacityOf R (st .memory) in
+      let fit : length all ≤ slots = omega (arith, all-long) in
+      let within : 8 * R * slots ≤ length (st .memory .areas) = areas-within R (length (st .memory .catalogue)) (length (st .memory .areas)) (facts .limits .limit-low) in
+      let more : length all * (8 * R) ≤ slots * (8 * R) = mul-le-mul-right (8 * R) fit in
+      length-put (st .memory .areas) 0 (areasBytes all)
+      (omega (arith, length-areas R all all-fit, mul-comm (8 * R) (length all), mul-comm (8 * R) slots))
+
+  slots-same : capacityOf (st .numbers .limit) (other .memory) ≡ capacityOf (st .numbers .limit) (st .memory)
+  slots-same = rw (entries-long, areas-long)
+
+  other-facts : AuditedFacts other
+  unfolding headerBytes
+  other-facts =
+      let l = facts .limits in
+      record {
+        limits = record {
+          order-low = l .order-low;
+          order-high = l .order-high;
+          page-low = l .page-low;
+          page-high = l .page-high;
+          limit-low = l .limit-low;
+          limit-high = l .limit-high;
+          records-few = l .records-few;
+          log-long = l .log-long;
+          index-long = l .index-long;
+          table-long = l .table-long;
+          files-few = rw slots-same (omega arith);
+        };
+        header-is = facts .header-is;
+        log-legal = facts .log-legal;
+        last-is = facts .last-is;
+        live-is = facts .live-is;
+        table-is = facts .table-is;
+        index-is = facts .index-is;
+        files-are = rw (files-back R gs (replicate j (noFile R)) (st .memory .catalogue) (st .memory .areas) gs-fit) are;
+        rest-is = rw slots-same (rest-back R (st .memory .catalogue) (capacityOf R (st .memory)) (st .numbers .files) gs j low high (facts .rest-is));
+      }
+
+  pub files-in-order : InOrder other
+  files-in-order =
+      let l = o .lendable in
+      let p = o .passable in
+      let entries = entries-put (st .memory .catalogue) 0 (map entryOf all) (entries-of-lendable (st .memory) l) (entries-of-files R all all-fit) in
+      record {
+        audited = audited-of-facts other other-facts;
+        lendable = record {
+          log-bytes = l .log-bytes;
+          index-words = l .index-words;
+          table-bytes = l .table-bytes;
+          entry-times = entries .times-fit;
+          entry-rows = entries .rows-fit;
+          area-bytes = are-bytes-put (st .memory .areas) 0 (areasBytes all) (l .area-bytes) (bytes-of-files R all all-fit);
+        };
+        passable = record {
+          order-fits = p .order-fits;
+          page-fits = p .page-fits;
+          limit-fits = p .limit-fits;
+          records-fit = p .records-fit;
+          last-fits = p .last-fits;
+          live-fits = p .live-fits;
+          files-fit = omega (arith, capacity-few R (length (st .memory .catalogue)) (length (st .memory .areas)));
+        };
+      }
+
+-- ---- keep
+
+-- the file of time t is one of the log's
+pub file-at-is : (st : State) (t before : ℕ) → before < t → t ≤ st .numbers .last → FileIs (st .numbers .limit) (st .numbers .last) (logOf st) before (fileAt st t)
+file-at-is st t before h l = record { later = h; held = l; rows-are = refl; area-is = refl }
+
+-- what keep's questions say
+pub record KeepAsked (st : State) (t : ℕ) : Type 0 where
+  pub held : t ≤ st .numbers .last
+  pub positive : 0 < t
+  pub not-kept : isKept t (filesOf st) ≡ false
+  pub room : st .numbers .files < capacityOf (st .numbers .limit) (st .memory)
+
+pub keep-asked : (st : State) (t : ℕ) → firstNo (keepQuestions st t) ≡ 0 → KeepAsked st t
+keep-asked st t q =
+    let held = leb t (st .numbers .last) in
+    let some = not (eqb t 0) in
+    let free = not (isKept t (filesOf st)) in
+    let room = ltb (st .numbers .files) (capacityOf (st .numbers .limit) (st .memory)) in
+    let q1 = asked 0 (sound st) (question 12 held ∷ question 14 (some && free) ∷ question 15 room ∷ []) q in
+    let q12 = asked 11 held (question 14 (some && free) ∷ question 15 room ∷ []) (q1 .1) in
+    let q14 = asked 13 (some && free) (question 15 room ∷ []) (q12 .1) in
+    let q15 = asked 14 room [] (q14 .1) in
+    record {
+      held = leb-true _ _ (q12 .0);
+      positive = above t (eqb-false t 0 (not-true (eqb t 0) (and-left some free (q14 .0))));
+      not-kept = not-true (isKept t (filesOf st)) (and-right some free (q14 .0));
+      room = ltb-true _ _ (q15 .0);
+    }
+  where
+    above : (k : ℕ) → (k ≡ 0 → ⊥) → 0 < k
+    above zero h = absurd (h refl)
+    above (suc k) h = omega arith
+
+pub keep-audited : (st : State) (t : ℕ) → InOrder st → InOrder (keepOf st t .state)
+unfolding keepOf
+keep-audited st t o = by (firstNo (keepQuestions st t)) refl
+  where
+    by : (k : ℕ) → firstNo (keepQuestions st t) ≡ k → InOrder (keepOf st t .state)
+    by zero q =
+        let h = keep-asked st t q in
+        let f = audited-facts st (o .audited) in
+        let R = st .numbers .limit in
+        let fs = filesOf st in
+        let gs = fileIn (fileAt st t) fs in
+        let n : length gs ≡ st .numbers .files + 1 = length-file-in (fileAt st t) fs ∙ omega (arith, length-files st f) in
+        let are : FilesAre R (st .numbers .last) (logOf st) 0 gs =
+        files-with R (st .numbers .last) (logOf st) (fileAt st t) 0 fs (file-at-is st t 0 (h .positive) (h .held)) (h .not-kept) (f .files-are) in
+        rw q (rw (append-nil gs, n) at (files-in-order st o gs 0 are (omega arith) (omega (arith, h .room))))
+    by (suc k) q = rw q o
+
+-- ---- drop
+
+pub drop-audited : (st : State) (t : ℕ) → InOrder st → InOrder (dropOf st t .state)
+unfolding dropOf
+drop-audited st t o = by (firstNo (question 1 (sound st) ∷ question 16 (isKept t (filesOf st)) ∷ [])) refl
+  where
+    by : (k : ℕ) → firstNo (question 1 (sound st) ∷ question 16 (isKept t (filesOf st)) ∷ []) ≡ k → InOrder (dropOf st t .state)
+    by zero q =
+        let f = audited-facts st (o .audited) in
+        let R = st .numbers .limit in
+        let fs = filesOf st in
+        let gs = otherFiles t fs in
+        let less : length gs ≤ st .numbers .files = omega (arith, length-other-files t fs, length-files st f) in
+        rw q
+        (files-in-order st o gs (st .numbers .files - length gs) (files-without R (st .numbers .last) (logOf st) t 0 0 fs (omega arith) (f .files-are))
+        (omega arith) (omega (arith, f .limits .files-few)))
+    by (suc k) q = rw q o

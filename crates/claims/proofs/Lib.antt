@@ -1,0 +1,15 @@
+pub mod FactLaws
+pub mod IndexWords
+pub mod Regions
+pub mod Started
+pub mod Opened
+pub mod Appended
+pub mod Changed
+pub mod SecondDemands
+pub mod FileLists
+pub mod FilesKept
+pub mod Kept
+pub mod Lists
+pub mod FileFronts
+pub mod Exact
+pub mod Refused
