@@ -372,22 +372,11 @@ pub fn index_words(d: usize, k: usize) -> usize
     node_word(order, NodeNumber(leaf_node(order, n - 1).0 + 1))
 }
 
-fn clear_words(s: &mut [u64])
-    ensures { λ _. ⌜ now (s .exit) ≡ zeros (length (now (s .entry))) ⌝ }
-{
-    let n = s.len();
-    let mut i = 0;
-    while i < n {
-        s[i] = 0;
-        i += 1;
-    }
-}
-
 // The nodes that k keys take are zeros, and nothing else is written.
 pub fn clear_nodes(index: &mut [u64], d: usize, k: usize)
     requires { ⌜ Room d k (length (now index)) ⌝ }
     ensures { λ _. ⌜ now (index .exit) ≡ withoutNodes d (nodesOf d k) (now (index .entry)) ⌝ }
 {
     let words = index_words(d, k);
-    clear_words(&mut index[0..words]);
+    codec::clear_words(&mut index[0..words]);
 }

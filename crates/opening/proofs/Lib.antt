@@ -1,0 +1,4 @@
+pub mod Admissions
+pub mod Replays
+pub mod Questions
+pub mod Rebuilds

@@ -1,0 +1,137 @@
+-- The promises of position, table and view, from the answers to the questions and what the code says on any memory: one law
+-- for each return. Assumes nothing.
+use Prim.Native.Nat.{ℕ, _+_, _-_, _*_, _≤_, _<_, zero-le}
+use mathlib.Core.Path.{_≡_, refl, sym, ap, _∙_}
+use mathlib.Core.List.{List}
+use mathlib.Core.Bool.{true, false}
+use native.Mathlib.Omega.{arith}
+use native.Mathlib.Nat.{sub-zero}
+use lib.ListN.{length, take, drop}
+use borrow.Author.Tests.{le-leb, lt-leb}
+use borrow.Rule.Slice.PartMut.{putMid}
+use Rattle.codec.specs.Parts.{put}
+use Rattle.codec.proofs.PartLaws.{length-put, drop-put, put-back}
+use Rattle.model.specs.declared.Numbers.{Numbers}
+use Rattle.model.specs.Answers.{refuses, answers, firstNo}
+use Rattle.model.specs.Memory.{State, logOf, sound}
+use Rattle.model.specs.Outset.{outsetFor}
+use Rattle.model.specs.Queries.{positionOf, tableOf, viewOf, rowsPart}
+use Rattle.model.specs.Promises.{refusedBy, Beyond, PositionPromise, TablePromise, ViewPromise}
+use Rattle.model.proofs.AuditLaws.{audited-facts}
+use Rattle.pages.specs.Paged.{Indexed, PositionIs}
+use Rattle.catalogue.specs.declared.Catalogue.{Catalogue}
+use Rattle.catalogue.specs.Files.{Loaded}
+use Rattle.limits.specs.Fit.{Fit}
+use Rattle.tables.specs.declared.Used.{Used}
+use Rattle.tables.specs.declared.Worked.{Worked}
+use Rattle.tables.specs.Parts.{lent}
+use Rattle.tables.specs.Used.{NearestIs}
+use Rattle.tables.specs.Ways.{Ready, WorkedOut}
+use Rattle.tables.proofs.Chosen.{describes, position-of}
+use Rattle.tables.proofs.Ways.{rows-part-lent}
+
+module _ (st : State) (t : ℕ) where
+  -- ---- position
+
+  pub position-header : sound st ≡ false → PositionPromise st t (refuses 1)
+  unfolding positionOf firstNo refusedBy
+  position-header q = record { question-1 = rw q; audited = λ a. rw q }
+
+  pub position-late : sound st ≡ true → st .numbers .last < t → PositionPromise st t (refuses 12)
+  unfolding positionOf firstNo refusedBy
+  position-late q h = record { question-1 = rw q; audited = λ a. rw (q, lt-leb _ _ h) }
+
+  pub position-answers : (p : ℕ) → sound st ≡ true → t ≤ st .numbers .last
+      → PositionIs (st .numbers .order) (st .numbers .page) (st .numbers .records) t (st .memory .index) p → PositionPromise st t (answers p)
+  unfolding positionOf firstNo refusedBy
+  position-answers p q h is = record { question-1 = rw q; audited = λ a. rw (q, le-leb _ _ h) (ap answers (position-of st (audited-facts st a) is)) }
+
+-- ---- what question 1 tells
+
+pub indexed-of : {s : Numbers} {log index table entries areas : ℕ} → Fit s log index table entries areas → Indexed (s .order) (s .page) (s .records) index
+indexed-of f =
+    let r = f .in-range in
+    record {
+      order-low = r .order-low;
+      order-high = r .order-high;
+      page-low = r .page-low;
+      page-high = r .page-high;
+      records-few = r .records-few;
+      long = f .index-long;
+    }
+
+pub ready-of : {s : Numbers} {log index table entries areas t out : ℕ} → Fit s log index table entries areas → t ≤ s .last → out ≡ 8 * s .limit → Ready s log index t out
+ready-of f h e =
+    record {
+      indexed = indexed-of f;
+      limit-high = f .in-range .limit-high;
+      files-sixteen = f .files-sixteen;
+      log-long = f .log-long;
+      held = h;
+      out-is = e;
+    }
+
+-- ---- table
+
+module _ (st : State) (t : ℕ) (out : List ℕ) where
+  beyond-same : Beyond (8 * st .numbers .limit) out out
+  beyond-same = record { same-length = refl; same-rest = refl }
+
+  pub table-header : sound st ≡ false → TablePromise st t out (refuses 1) out
+  unfolding tableOf firstNo refusedBy
+  table-header q = record { question-1 = rw q; refused = λ k e. refl; framed = beyond-same; audited = λ a. rw q }
+
+  pub table-late : sound st ≡ true → st .numbers .last < t → TablePromise st t out (refuses 12) out
+  unfolding tableOf firstNo refusedBy
+  table-late q h = record { question-1 = rw q; refused = λ k e. refl; framed = beyond-same; audited = λ a. rw (q, lt-leb _ _ h) }
+
+  pub table-short : sound st ≡ true → t ≤ st .numbers .last → length out < 8 * st .numbers .limit → TablePromise st t out (refuses 13) out
+  unfolding tableOf firstNo refusedBy
+  table-short q h g =
+      record { question-1 = rw q; refused = λ k e. refl; framed = beyond-same; audited = λ a. rw (q, le-leb _ _ h, lt-leb _ _ g) }
+
+  -- the part lent, of 8 × R bytes, came back as the bytes ys
+  pub table-answers : (c : Catalogue) (w : Worked) {ys : List ℕ} → sound st ≡ true → t ≤ st .numbers .last → 8 * st .numbers .limit ≤ length out → length ys ≡ 8 * st .numbers .limit
+      → Loaded (st .memory .catalogue) (st .numbers .files) c
+      → WorkedOut (st .numbers) (st .memory .log) (st .memory .index) (st .memory .table) (st .memory .areas) c t w ys
+      → TablePromise st t out (answers (record { rows = w .rows; side = w .side; distance = w .distance })) (putMid 0 (8 * st .numbers .limit - 0) out ys)
+  unfolding tableOf firstNo refusedBy
+  table-answers c w {ys} q h room l has worked =
+      let size = 8 * st .numbers .limit in
+      let written : putMid 0 (size - 0) out ys ≡ put out 0 ys = put-back 0 (size - 0) out {ys = ys} {zs = ys} refl (rw sub-zero l) in
+      record {
+        question-1 = rw q;
+        refused = λ k e. let z : _≡_ {A = ℕ} 0 1 = cc in absurd (omega arith);
+        framed = record {
+            same-length = ap length written ∙ length-put out 0 ys (omega arith);
+            same-rest = ap (drop size) written ∙ drop-put size out 0 ys (omega arith) zero-le;
+          };
+        audited = λ a.
+            let is = worked .on (st .memory .catalogue) has a in
+            rw (written, q, le-leb _ _ h, le-leb _ _ room, is .0, is .1);
+      }
+
+-- ---- view
+
+module _ (st : State) (t : ℕ) where
+  pub view-header : sound st ≡ false → ViewPromise st t (refuses 1) (take 0 (st .memory .table))
+  unfolding viewOf firstNo refusedBy
+  view-header q = record { question-1 = rw q; audited = λ a. rw q }
+
+  pub view-late : sound st ≡ true → st .numbers .last < t → ViewPromise st t (refuses 12) (take 0 (st .memory .table))
+  unfolding viewOf firstNo refusedBy
+  view-late q h = record { question-1 = rw q; audited = λ a. rw (q, lt-leb _ _ h) }
+
+  pub view-answers : (c : Catalogue) (u : Used) → sound st ≡ true → t ≤ st .numbers .last → Loaded (st .memory .catalogue) (st .numbers .files) c
+      → NearestIs (st .numbers) c t (st .memory .index) u
+      → let h = u .chosen .outset in ViewPromise st t (answers (record { place = h .place; rows = h .rows; side = u .chosen .side; distance = u .chosen .distance }))
+          (rowsPart (st .numbers .limit) (lent (st .memory .areas) (st .memory .table)) (h .place) (h .rows))
+  unfolding viewOf firstNo refusedBy
+  view-answers c u q h has near =
+      record {
+        question-1 = rw q;
+        audited = λ a.
+            let f = audited-facts st a in
+            let is : u .chosen ≡ outsetFor st t = near .chosen-is (logOf st) (st .memory .catalogue) (describes st f c has) in
+            rw (q, le-leb _ _ h, rows-part-lent, is);
+      }

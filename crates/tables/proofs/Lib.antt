@@ -1,0 +1,4 @@
+pub mod Chosen
+pub mod Nearness
+pub mod Ways
+pub mod Answers

@@ -1,0 +1,56 @@
+-- `tree_cases::count_up_to` is safe and ends. Invariant: no more counted than seen. Measure: the keys that are
+-- left. Assumes nothing.
+use Prim.Native.Nat.{_-_, _≤_}
+use borrow.Author.Needs.{needs}
+use native.Mathlib.Omega.{arith}
+use Rattle.tree_cases.proofs.count_up_to.Statement.{statement}
+use Rattle.tree_cases.proofs.count_up_to.Tie as tie
+
+abbrev Inv-loop : tie.InvT-loop
+Inv-loop k t n₀ i₀ n i = (i ≤ k) × (n ≤ i)
+
+abbrev μ-loop : tie.MeasureT-loop
+μ-loop k t n₀ i₀ n i = k - i
+
+loop-holds : tie.Need-loop-holds Inv-loop μ-loop
+loop-holds c = search needs
+
+key-requires : tie.Need-key-requires Inv-loop μ-loop
+key-requires c κs = search needs
+
+add-i : tie.Need-add-i Inv-loop μ-loop
+add-i c = search needs
+
+add-n : tie.Need-add-n Inv-loop μ-loop
+add-n c = search needs
+
+loop-less : tie.Need-loop-less Inv-loop μ-loop
+loop-less c = search needs
+
+loop-again : tie.Need-loop-again Inv-loop μ-loop
+loop-again c = search needs
+
+loop-less-2 : tie.Need-loop-less-2 Inv-loop μ-loop
+loop-less-2 c = search needs
+
+loop-again-2 : tie.Need-loop-again-2 Inv-loop μ-loop
+loop-again-2 c = search needs
+
+returns : tie.Need-returns Inv-loop μ-loop
+returns c = search needs
+
+pub count-up-to-spec : {M : Type 1} → statement M
+count-up-to-spec =
+    tie.close
+    (tie.spec
+    Inv-loop
+    μ-loop
+    loop-holds
+    key-requires
+    add-i
+    add-n
+    loop-less
+    loop-again
+    loop-less-2
+    loop-again-2
+    returns)
