@@ -13,3 +13,7 @@ pub mod Lists
 pub mod FileFronts
 pub mod Exact
 pub mod Refused
+pub mod NetChanges
+pub mod Outsets
+pub mod SameLogs
+pub mod ThirdDemands

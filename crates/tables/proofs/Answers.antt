@@ -1,7 +1,7 @@
 -- The promises of position, table and view, from the answers to the questions and what the code says on any memory: one law
 -- for each return. Assumes nothing.
-use Prim.Native.Nat.{ℕ, _+_, _-_, _*_, _≤_, _<_, zero-le}
-use mathlib.Core.Path.{_≡_, refl, sym, ap, _∙_}
+use Prim.Native.Nat.{ℕ, _-_, _*_, _≤_, _<_, zero-le}
+use mathlib.Core.Path.{_≡_, refl, ap, _∙_}
 use mathlib.Core.List.{List}
 use mathlib.Core.Bool.{true, false}
 use native.Mathlib.Omega.{arith}
@@ -103,9 +103,9 @@ module _ (st : State) (t : ℕ) (out : List ℕ) where
         question-1 = rw q;
         refused = λ k e. let z : _≡_ {A = ℕ} 0 1 = cc in absurd (omega arith);
         framed = record {
-            same-length = ap length written ∙ length-put out 0 ys (omega arith);
-            same-rest = ap (drop size) written ∙ drop-put size out 0 ys (omega arith) zero-le;
-          };
+          same-length = ap length written ∙ length-put out 0 ys (omega arith);
+          same-rest = ap (drop size) written ∙ drop-put size out 0 ys (omega arith) zero-le;
+        };
         audited = λ a.
             let is = worked .on (st .memory .catalogue) has a in
             rw (written, q, le-leb _ _ h, le-leb _ _ room, is .0, is .1);
@@ -125,7 +125,7 @@ module _ (st : State) (t : ℕ) where
   pub view-answers : (c : Catalogue) (u : Used) → sound st ≡ true → t ≤ st .numbers .last → Loaded (st .memory .catalogue) (st .numbers .files) c
       → NearestIs (st .numbers) c t (st .memory .index) u
       → let h = u .chosen .outset in ViewPromise st t (answers (record { place = h .place; rows = h .rows; side = u .chosen .side; distance = u .chosen .distance }))
-          (rowsPart (st .numbers .limit) (lent (st .memory .areas) (st .memory .table)) (h .place) (h .rows))
+      (rowsPart (st .numbers .limit) (lent (st .memory .areas) (st .memory .table)) (h .place) (h .rows))
   unfolding viewOf firstNo refusedBy
   view-answers c u q h has near =
       record {
@@ -133,5 +133,5 @@ module _ (st : State) (t : ℕ) where
         audited = λ a.
             let f = audited-facts st a in
             let is : u .chosen ≡ outsetFor st t = near .chosen-is (logOf st) (st .memory .catalogue) (describes st f c has) in
-            rw (q, le-leb _ _ h, rows-part-lent, is);
+            rw (q, le-leb _ _ h, rows-part-lent (st .numbers .limit) (st .memory) (u .chosen .outset .place) (u .chosen .outset .rows), is);
       }

@@ -1,7 +1,7 @@
 -- On audited memory: the index holds the packed tree of the log, and every held table, so also the outset chosen, is the
 -- table of its time. Assumes nothing.
-use Prim.Native.Nat.{ℕ, suc, _+_, _*_, _≤_, zero-le}
-use mathlib.Core.Path.{_≡_, refl, sym, ap, _∙_}
+use Prim.Native.Nat.{ℕ, suc, _*_, _≤_, zero-le}
+use mathlib.Core.Path.{_≡_, sym, ap, _∙_}
 use mathlib.Core.Logic.{_⊎_, inl, inr}
 use mathlib.Core.List.{List, [], _∷_, _++_, List·Memᴰ, List·Memᴰ·not-nil, List·Memᴰ·cases-cons, List·Memᴰ·append-cases, List·Memᴰ·eq-of-singleton}
 use mathlib.Core.Bool.{Bool, true, false, cond}
@@ -12,20 +12,18 @@ use lib.Dec.{ltb}
 use Rattle.codec.specs.Parts.{part}
 use Rattle.model.specs.declared.Entry.{Entry}
 use Rattle.model.specs.declared.Held.{Held}
-use Rattle.model.specs.declared.Place.the-variants.{Empty, Area, Current}
+use Rattle.model.specs.declared.Place.the-variants.{Area}
 use Rattle.model.specs.declared.Side.the-variants.{Earlier, Later}
 use Rattle.model.specs.Rows.{Row, rowsBytes, tableBytes}
 use Rattle.model.specs.Timeslice.{timeslice}
-use Rattle.model.specs.Pages.{pageTimes, recordsUpTo}
+use Rattle.model.specs.Pages.{recordsUpTo}
 use Rattle.model.specs.Numbering.{nodeWord}
 use Rattle.model.specs.Tree.{Packed, pagePosition}
 use Rattle.model.specs.Memory.{State, logOf, keysOf}
-use Rattle.model.specs.Outset.{emptyTable, currentTable, filesFrom, filesHeld, held, latest, earliest, distance, measure, earlierFor, laterFor, chosen, chooseBy, outsetFor}
+use Rattle.model.specs.Outset.{emptyTable, currentTable, filesFrom, filesHeld, held, distance, measure, earlierFor, laterFor, chosen, chooseBy, outsetFor}
 use Rattle.model.specs.Queries.{rowsPart}
-use Rattle.model.specs.Files.{File, filesIn, filesOf}
-use Rattle.model.specs.Audit.{Audited}
+use Rattle.model.specs.Files.{filesIn}
 use Rattle.model.specs.Facts.{FileIs, FilesAre, AuditedFacts}
-use Rattle.model.proofs.AuditLaws.{audited-facts}
 use Rattle.model.proofs.TimeLaws.{timeslice-rows, timeslice-zero}
 use Rattle.model.proofs.UpToLaws.{records-up-to-le}
 use Rattle.model.proofs.KeyLaws.{keys-up-to-later}

@@ -1,0 +1,70 @@
+-- The outset that an audited state uses (demand 3): it is a held table, its distance is the one reported, and no held table is
+-- nearer. Assumes nothing.
+use Prim.Native.Nat.{ℕ, _*_, _≤_}
+use mathlib.Core.Path.{_≡_, refl}
+use mathlib.Core.List.{List, [], _∷_, List·Memᴰ}
+use mathlib.Core.Bool.{Bool, true, false, cond}
+use lib.ListN.{length}
+use lib.Dec.{ltb}
+use Rattle.model.specs.declared.Held.{Held}
+use Rattle.model.specs.declared.Side.{Side}
+use Rattle.model.specs.declared.Side.the-variants.{Earlier, Later}
+use Rattle.model.specs.declared.Chosen.{Chosen}
+use Rattle.model.specs.Answers.{firstNo}
+use Rattle.model.specs.Memory.{State, keysOf}
+use Rattle.model.specs.Outset.{held, filesHeld, currentTable, measure, distance, chosen, chooseBy, earlierFor, laterFor, outsetFor}
+use Rattle.model.specs.Queries.{tableSaid, tableOf}
+use Rattle.model.specs.Audit.{Audited}
+use Rattle.model.specs.Demands.{candidate, OutsetIsNearest}
+use Rattle.model.proofs.KeyLaws.{page-position-le}
+use Rattle.catalogue.proofs.Nearest.{nearest, chosen-held}
+use Rattle.claims.proofs.SecondDemands.{table-accepted}
+
+module _ (st : State) (t : ℕ) where
+  -- the outset used is the candidate on the side answered
+  pub outset-candidate : outsetFor st t .outset ≡ candidate st t (outsetFor st t .side)
+  unfolding chooseBy candidate
+  outset-candidate = by (ltb (distance (measure st) t (laterFor st t)) (distance (measure st) t (earlierFor st t)))
+    where
+      f : ℕ → ℕ
+      f = measure st
+
+      by : (b : Bool) → cond b (chosen f t (laterFor st t) Later) (chosen f t (earlierFor st t) Earlier) .outset
+          ≡ candidate st t (cond b (chosen f t (laterFor st t) Later) (chosen f t (earlierFor st t) Earlier) .side)
+      by true = refl
+      by false = refl
+
+  -- and the distance reported is the outset's
+  pub outset-distance : outsetFor st t .distance ≡ distance (measure st) t (outsetFor st t .outset)
+  unfolding chooseBy
+  outset-distance = by (ltb (distance (measure st) t (laterFor st t)) (distance (measure st) t (earlierFor st t)))
+    where
+      f : ℕ → ℕ
+      f = measure st
+
+      by : (b : Bool) → cond b (chosen f t (laterFor st t) Later) (chosen f t (earlierFor st t) Earlier) .distance
+          ≡ distance f t (cond b (chosen f t (laterFor st t) Later) (chosen f t (earlierFor st t) Earlier) .outset)
+      by true = refl
+      by false = refl
+
+  -- the measure never falls
+  measure-rises : (x y : ℕ) → x ≤ y → measure st x ≤ measure st y
+  measure-rises = page-position-le (keysOf st)
+
+  pub outset-held : t ≤ st .numbers .last → List·Memᴰ (outsetFor st t .outset) (held st)
+  outset-held h = chosen-held (measure st) measure-rises t (currentTable st) (filesHeld st) h
+
+  pub outset-nearest : t ≤ st .numbers .last → (x : Held) → List·Memᴰ x (held st) → outsetFor st t .distance ≤ distance (measure st) t x
+  outset-nearest h = nearest (measure st) measure-rises t (currentTable st) (filesHeld st) h
+
+  pub outset-is-nearest : (out : List ℕ) → Audited st → t ≤ st .numbers .last → 8 * st .numbers .limit ≤ length out → OutsetIsNearest st t out
+  unfolding tableOf
+  outset-is-nearest out ok h l =
+      let q = table-accepted st t out ok h l in
+      record {
+        said = tableSaid st t;
+        answered = rw q;
+        reported = rw (← outset-candidate) outset-distance;
+        is-held = rw (← outset-candidate) (outset-held h);
+        nearest = outset-nearest h;
+      }

@@ -1,0 +1,23 @@
+-- The third demand: after every list of calls, refused ones included, from every accepted start, of net changes and outsets; and of
+-- any two such lists that leave one log, of tables. Assumes nothing.
+use Rattle.model.specs.Memory.{State}
+use Rattle.model.specs.Facts.{InOrder}
+use Rattle.model.specs.Demands.{DemandThree, SameTables, ThirdDemand, left}
+use Rattle.claims.proofs.Lists.{stays-in-order}
+use Rattle.claims.proofs.NetChanges.{net-change-is}
+use Rattle.claims.proofs.Outsets.{outset-is-nearest}
+use Rattle.claims.proofs.SameLogs.{one-table}
+
+pub demand-three : (st : State) → InOrder st → DemandThree st
+demand-three st o =
+    record {
+      net-changes = λ a b out work h g l k. net-change-is st a b out work (o .audited) h g l k;
+      outsets = λ t out h l. outset-is-nearest st t out (o .audited) h l;
+    }
+
+pub same-tables : SameTables
+same-tables s s′ cs cs′ sf sf′ cf cf′ e e′ one t out out′ h l l′ =
+    one-table (left s cs) (left s′ cs′) (stays-in-order s cs sf cf e) (stays-in-order s′ cs′ sf′ cf′ e′) one t out out′ h l l′
+
+pub third-demand : ThirdDemand
+third-demand = record { after-every-list = λ s cs sf cf e. demand-three (left s cs) (stays-in-order s cs sf cf e); same-tables = same-tables }

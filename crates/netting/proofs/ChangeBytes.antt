@@ -1,0 +1,32 @@
+-- The bytes of a list of entries, and of a net change in its output: their length, and where the entries stand. Assumes nothing.
+use Prim.Native.Nat.{ℕ, _+_, _*_, _-_, _≤_}
+use mathlib.Core.Path.{_≡_, refl, _∙_}
+use mathlib.Core.List.{List, [], _∷_, _++_, append-assoc}
+use native.Mathlib.Omega.{arith}
+use lib.ListN.{length, take, length-append, length-replicate}
+use lib.Seq.{take-at}
+use Rattle.codec.specs.LittleEndian.{bytes}
+use Rattle.codec.specs.Parts.{zeros}
+use Rattle.codec.proofs.Numbers.{length-bytes}
+use Rattle.model.specs.NetChange.{Change, changeBytes, changesBytes, netChangeBytes}
+
+pub length-change-bytes : (c : Change) → length (changeBytes c) ≡ 12
+unfolding changeBytes
+length-change-bytes c = simp (length-append, length-bytes)
+
+pub length-changes-bytes : (cs : List Change) → length (changesBytes cs) ≡ 12 * length cs
+unfolding changesBytes
+length-changes-bytes [] = refl
+length-changes-bytes (c ∷ cs) = length-append (changeBytes c) (changesBytes cs) ∙ rw (length-change-bytes c, length-changes-bytes cs) (omega arith)
+
+pub length-net-bytes : (R : ℕ) (cs : List Change) → length cs ≤ 2 * R → length (netChangeBytes R cs) ≡ 24 * R
+unfolding netChangeBytes
+length-net-bytes R cs h =
+    length-append (changesBytes cs) (zeros (24 * R - 12 * length cs))
+    ∙ rw (length-changes-bytes cs, length-replicate {A = ℕ} (24 * R - 12 * length cs) 0) (omega arith)
+
+-- the entries are the front, whatever stands behind
+pub take-net-bytes : (R : ℕ) (cs : List Change) (rest : List ℕ) → take (12 * length cs) (netChangeBytes R cs ++ rest) ≡ changesBytes cs
+unfolding netChangeBytes
+take-net-bytes R cs rest =
+    rw append-assoc (take-at (changesBytes cs) (zeros (24 * R - 12 * length cs) ++ rest) (12 * length cs) (length-changes-bytes cs))
