@@ -50,7 +50,15 @@ fn no_files() -> Catalogue {
 }
 
 // The line for the time t, unless it was the last one listed.
-fn list_time(s: Numbers, log: &[u8], index: &[u64], current: &[u8], t: u64, last: u64, out: &mut [u8]) {
+fn list_time(
+    s: Numbers,
+    log: &[u8],
+    index: &[u64],
+    current: &[u8],
+    t: u64,
+    last: u64,
+    out: &mut [u8],
+) {
     if t == last {
         return;
     }
@@ -62,7 +70,8 @@ fn list_time(s: Numbers, log: &[u8], index: &[u64], current: &[u8], t: u64, last
         rows,
         side,
         distance: _,
-    } = tables::table(s, log, index, current, no_files(), 0, none, t, out) else {
+    } = tables::table(s, log, index, current, no_files(), 0, none, t, out)
+    else {
         return;
     };
     print_line(t, position.page.0, side, rows);

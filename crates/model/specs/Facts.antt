@@ -53,7 +53,7 @@ pub record AuditedFacts (st : State) : Type 0 where
   pub index-is : withTree (st .numbers .order) (keysOf st) (st .memory .index) ≡ st .memory .index
   pub files-are : FilesAre (st .numbers .limit) (st .numbers .last) (logOf st) 0 (filesOf st)
   pub rest-is : drop (st .numbers .files) (take (capacityOf (st .numbers .limit) (st .memory)) (st .memory .catalogue))
-    ≡ replicate (capacityOf (st .numbers .limit) (st .memory) - st .numbers .files) noEntry
+      ≡ replicate (capacityOf (st .numbers .limit) (st .memory) - st .numbers .files) noEntry
 
 -- a state as a list of calls leaves it: audited, of values of their types
 pub record InOrder (st : State) : Type 0 where

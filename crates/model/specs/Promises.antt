@@ -40,7 +40,7 @@ pub record Beyond (k : ℕ) (xs ys : List ℕ) : Type 0 where
 pub record AppendFrame (more : ℕ) (st st' : State) : Type 0 where
   pub log-length : length (st' .memory .log) ≡ length (st .memory .log)
   pub log-framed : (i : ℕ) → 24 ≤ i → (i < 24 + 24 * st .numbers .records) ⊎ (24 + 24 * (st .numbers .records + more) ≤ i)
-    → getD (st' .memory .log) i 0 ≡ getD (st .memory .log) i 0
+      → getD (st' .memory .log) i 0 ≡ getD (st .memory .log) i 0
   pub index-framed : Beyond (indexNeed (st .numbers .order) (st .numbers .page) (st .numbers .records + more)) (st .memory .index) (st' .memory .index)
   pub table-framed : Beyond (8 * st .numbers .limit) (st .memory .table) (st' .memory .table)
   pub catalogue-same : st' .memory .catalogue ≡ st .memory .catalogue
