@@ -1,27 +1,28 @@
 -- The net change that an audited state answers (demand 3): it is accepted, its entries stand in the output, they lead from the one
 -- table to the other, no list of fewer legal insertions and deletions does, and there is none exactly where the tables are
 -- equal. Assumes nothing.
-use Prim.Native.Nat.{ℕ, _+_, _*_, _≤_}
+use Prim.Native.Nat.{ℕ, _+_, _-_, _*_, _≤_}
 use mathlib.Core.Path.{_≡_}
-use mathlib.Core.List.{List, [], _∷_}
-use mathlib.Core.Bool.{_&&_}
+use mathlib.Core.List.{List, [], _++_, append-assoc}
 use native.Mathlib.Omega.{arith}
 use lib.ListN.{length, drop}
-use lib.Dec.{leb}
 use borrow.Author.Tests.{le-leb}
-use Rattle.model.specs.Answers.{question, firstNo}
-use Rattle.model.specs.Memory.{State, logOf, sound}
-use Rattle.model.specs.NetChange.{Change, netChange, netChangeBytes}
+use Rattle.codec.specs.Parts.{zeros}
+use Rattle.model.specs.Answers.{firstNo}
+use Rattle.model.specs.Memory.{State, Lendable, logOf}
+use Rattle.model.specs.NetChange.{netChange, changesBytes, netChangeBytes}
 use Rattle.model.specs.Queries.{rowsAt, netQuestions, netOf}
 use Rattle.model.specs.Audit.{Audited}
 use Rattle.model.specs.Demands.{NetChangeIs}
 use Rattle.model.proofs.AuditLaws.{audited-facts, audited-sound}
 use Rattle.model.proofs.Compare.{and-both}
 use Rattle.model.proofs.ReportLaws.{asc-timeslice}
+use Rattle.netting.specs.Entries.{changesIn}
 use Rattle.netting.proofs.ChangeBytes.{take-net-bytes}
 use Rattle.netting.proofs.Netting.{length-net-le, net-leads, net-fewest, net-empty-iff-equal}
+use Rattle.netting.proofs.Reading.{changes-read, net-entries-fit}
 use Rattle.claims.proofs.Regions.{answered, none-asked}
-use Rattle.claims.proofs.FactLaws.{rows-few}
+use Rattle.claims.proofs.FactLaws.{rows-few, rows-small}
 
 module _ (st : State) (a b : ℕ) (out work : List ℕ) (ok : Audited st) where
   pub net-accepted : a ≤ st .numbers .last → b ≤ st .numbers .last → 24 * st .numbers .limit ≤ length out → 16 * st .numbers .limit ≤ length work
@@ -56,3 +57,17 @@ module _ (st : State) (a b : ℕ) (out work : List ℕ) (ok : Audited st) where
         leads-there = net-leads A B up up′;
         fewest = net-fewest A B up up′;
       }
+
+  -- the entries can be read back from the output
+  pub net-reads-back : Lendable (st .memory) → a ≤ st .numbers .last → b ≤ st .numbers .last → 24 * st .numbers .limit ≤ length out → 16 * st .numbers .limit ≤ length work
+      → let changes = netChange (rowsAt st a) (rowsAt st b) in changesIn (length changes) (netOf st a b out work .output) ≡ changes
+  unfolding netOf netChangeBytes
+  net-reads-back m h g l k =
+      let q = net-accepted h g l k in
+      let R = st .numbers .limit in
+      let A = rowsAt st a in
+      let B = rowsAt st b in
+      let changes = netChange A B in
+      let fit = net-entries-fit A B (asc-timeslice a (logOf st)) (asc-timeslice b (logOf st)) (rows-small st m a) (rows-small st m b) in
+      rw (q, append-assoc (changesBytes changes) (zeros (24 * R - 12 * length changes)) (drop (0 + length (netChangeBytes R changes)) out))
+      (changes-read changes (zeros (24 * R - 12 * length changes) ++ drop (0 + length (netChangeBytes R changes)) out) fit)

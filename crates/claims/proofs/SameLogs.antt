@@ -4,14 +4,12 @@ use Prim.Native.Nat.{ℕ, _+_, _*_, _≤_}
 use mathlib.Core.Path.{_≡_, sym, ap, _∙_}
 use mathlib.Core.List.{List}
 use native.Mathlib.Omega.{arith}
-use lib.ListN.{length, take, drop}
+use lib.ListN.{length, drop}
 use Rattle.codec.proofs.PartLaws.{part-of-take}
 use Rattle.model.specs.Records.{recordsOf}
-use Rattle.model.specs.Rows.{tableBytes}
-use Rattle.model.specs.Answers.{firstNo}
 use Rattle.model.specs.Memory.{State, logOf}
-use Rattle.model.specs.Queries.{rowsAt, tableSaid, tableQuestions, tableOf}
-use Rattle.model.specs.Facts.{AuditedFacts, InOrder}
+use Rattle.model.specs.Queries.{rowsAt, tableSaid, tableOf}
+use Rattle.model.specs.Facts.{InOrder}
 use Rattle.model.specs.Demands.{OneLog, OneTable}
 use Rattle.model.proofs.AuditLaws.{audited-facts}
 use Rattle.log.specs.Headers.{HeaderReads}

@@ -1,11 +1,10 @@
 -- The bytes of a list of entries, and of a net change in its output: their length, and where the entries stand. Assumes nothing.
-use Prim.Native.Nat.{ℕ, _+_, _*_, _-_, _≤_}
+use Prim.Native.Nat.{ℕ, _*_, _-_, _≤_}
 use mathlib.Core.Path.{_≡_, refl, _∙_}
 use mathlib.Core.List.{List, [], _∷_, _++_, append-assoc}
 use native.Mathlib.Omega.{arith}
 use lib.ListN.{length, take, length-append, length-replicate}
 use lib.Seq.{take-at}
-use Rattle.codec.specs.LittleEndian.{bytes}
 use Rattle.codec.specs.Parts.{zeros}
 use Rattle.codec.proofs.Numbers.{length-bytes}
 use Rattle.model.specs.NetChange.{Change, changeBytes, changesBytes, netChangeBytes}

@@ -1,12 +1,12 @@
 -- Carrying out a list of insertions and deletions, in any order and with any repetition: each legal entry brings a table at most
 -- one row nearer to another, and entries above a row pass it by. Assumes nothing.
 use Prim.Native.Nat.{ℕ, suc, _+_, _≤_, _<_, zero-le}
-use mathlib.Core.Path.{_≡_, refl, sym, ap, _∙_}
+use mathlib.Core.Path.{_≡_, sym, _∙_}
 use mathlib.Core.List.{List, [], _∷_}
-use mathlib.Core.Bool.{Bool, true, false, not, cond, _&&_, _||_, false≢true}
+use mathlib.Core.Bool.{Bool, true, false, not, cond, _&&_, false≢true}
 use native.Mathlib.Omega.{arith}
 use lib.ListN.{length}
-use lib.Dec.{ltb, eqb}
+use lib.Dec.{eqb}
 use borrow.Author.Tests.{lt-ltb}
 use Rattle.model.specs.Rows.{Row, sameRow, sameRows, lacks, hasRow, Ascending, putIn, without}
 use Rattle.model.specs.NetChange.{Change, rowIn, legalOn, changed, leads, missing}

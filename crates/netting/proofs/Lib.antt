@@ -5,3 +5,4 @@ pub mod Merging
 pub mod Netting
 pub mod Unique
 pub mod ChangeBytes
+pub mod Reading

@@ -1,22 +1,22 @@
 -- The net change of two ascending tables: it leads from the one to the other, no list of legal insertions and deletions that does
 -- is shorter, it has no entry exactly where the tables are equal, how many entries it has, and its form. Assumes nothing.
 use Prim.Native.Nat.{ℕ, suc, _+_, _≤_}
-use mathlib.Core.Path.{_≡_, refl, sym, ap, _∙_}
+use mathlib.Core.Path.{_≡_, refl, _∙_}
 use mathlib.Core.List.{List, [], _∷_, _++_, map}
-use mathlib.Core.Bool.{Bool, true, false, _&&_}
+use mathlib.Core.Bool.{true}
 use mathlib.Core.Logic.{_↔_}
 use native.Mathlib.Omega.{arith}
 use lib.ListN.{length, length-append, length-map}
-use Rattle.model.specs.Rows.{Row, sameRows, lacks, hasRow, Ascending, putIn, without}
+use Rattle.model.specs.Rows.{Row, sameRows, Ascending, without}
 use Rattle.model.specs.NetChange.{Change, inserts, deletes, legalOn, changed, leads, missing, netChange}
-use Rattle.model.proofs.Compare.{eqb-self, and-both}
+use Rattle.model.proofs.Compare.{eqb-self}
 use Rattle.model.proofs.RowLaws.{asc-lacks, without-lacks, in-front}
-use Rattle.model.proofs.RowSets.{has-first, has-not-lacks}
+use Rattle.model.proofs.RowSets.{has-first}
 use Rattle.netting.specs.Form.{From, WellFormed, Merged}
 use Rattle.netting.proofs.Missing.{length-missing-le}
 use Rattle.netting.proofs.Arranging.{length-arranged, from-weak}
 use Rattle.netting.proofs.Leading.{leads-fewest, leads-above}
-use Rattle.netting.proofs.Merging.{merged-left, merged-right, merged}
+use Rattle.netting.proofs.Merging.{merged-left, merged}
 
 -- ---- how many entries
 
@@ -24,7 +24,7 @@ pub length-net : (A B : List Row) → length (netChange A B) ≡ length (missing
 unfolding netChange
 length-net A B =
     length-arranged (map deletes (missing A B) ++ map inserts (missing B A))
-    ∙ rw (length-append, length-map, length-map)
+    ∙ rw (length-append, length-map (missing A B), length-map (missing B A))
 
 pub length-net-le : (A B : List Row) → length (netChange A B) ≤ length A + length B
 length-net-le A B = omega (arith, length-net A B, length-missing-le A B, length-missing-le B A)

@@ -1,17 +1,16 @@
 -- A well-formed list that leads from one ascending table to another is their net change: the form leaves no choice.
 -- Assumes nothing.
-use Prim.Native.Nat.{ℕ, zero, suc, _+_, _≤_, _<_}
+use Prim.Native.Nat.{ℕ, zero, suc, _+_, _≤_}
 use mathlib.Core.Path.{_≡_, refl, sym, _∙_}
 use mathlib.Core.List.{List, [], _∷_}
-use mathlib.Core.Bool.{Bool, true, false, not, _&&_, _||_, false≢true}
+use mathlib.Core.Bool.{Bool, true, false, _||_, false≢true}
 use native.Mathlib.Omega.{arith}
 use lib.ListN.{length}
-use lib.Dec.{eqb}
 use borrow.Author.Tests.{eq-eqb}
 use Rattle.model.specs.Rows.{Row, sameRow, lacks, hasRow, Ascending}
 use Rattle.model.specs.NetChange.{Change, inserts, deletes, legalOn, changed, leads, netChange}
 use Rattle.model.proofs.Compare.{Compared, less, same, more, compared, and-left, and-right}
-use Rattle.model.proofs.RowLaws.{asc-no-row, asc-weak}
+use Rattle.model.proofs.RowLaws.{asc-no-row}
 use Rattle.model.proofs.RowSets.{same-rows-true, same-row-true}
 use Rattle.netting.specs.Form.{From, WellFormed, Merged}
 use Rattle.netting.proofs.Arranging.{from-weak}

@@ -11,8 +11,8 @@ unfoldable pub From : ℕ → List Change → Type 0
 From lo [] = Unit
 From lo (c ∷ cs) = (lo ≤ c .article) × From lo cs
 
--- "ascending by article, for one article the deletion first": at most one of each for an article, none below lo, and never
--- both with one count
+-- "ascending by article, a deletion before an insertion of the same article, at most one of each for an article"; none below lo,
+-- and never both with one count, since "a row alike in both tables has none"
 pub data WellFormed : ℕ → List Change → Type 0 where
   none : {lo : ℕ} → WellFormed lo []
   deletion : {lo : ℕ} {cs : List Change} (r : Row) → lo ≤ r .article → WellFormed (suc (r .article)) cs → WellFormed lo (deletes r ∷ cs)

@@ -1,6 +1,7 @@
 //! An independent implementation of 01, "The stock history store", to test other ones against.
 //! It is written for plain reading, not for speed: each definition follows a sentence of 01.
 
+pub mod calls;
 pub mod generate;
 pub mod layout;
 pub mod limits;
@@ -8,6 +9,10 @@ pub mod listing;
 pub mod log;
 pub mod net_change;
 pub mod outset;
+#[cfg(feature = "proved")]
+pub mod plain;
+#[cfg(feature = "proved")]
+pub mod proved;
 pub mod random;
 pub mod samples;
 pub mod store;

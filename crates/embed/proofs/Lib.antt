@@ -1,0 +1,3 @@
+pub mod Zipped
+pub mod Lengths
+pub mod Crossings

@@ -1,0 +1,126 @@
+/* Yokefennel: a stock history store, called from C99 or C++. Link libembed.a (`rt staticlib embed`).
+ *
+ * All memory is the caller's, and lent for one call at a time. Nothing is kept between calls but what is
+ * in it and in the numbers, which pass by value: give each call the numbers that the last one answered.
+ *
+ * region  element  lengths that suffice
+ * log     byte     24 for the header and 24 for each record, at most 65,536 of them
+ * index   word     order - 1 for each node of the packed tree; 11 says that one more is needed
+ * table   byte     8 x limit: the current table
+ * times   word     one for each count file, up to 16; rows beside it has as many (the shorter counts)
+ * areas   byte     8 x limit for each count file
+ * out     byte     8 x limit: the table that yk_table works out
+ *
+ * A length is a number of elements. A pointer is never null, not even with length 0, and is aligned for its
+ * element; regions of one call do not overlap. What lies past the lengths that suffice stays as it was.
+ *
+ * A refused call answers the number of the first question answered no, and leaves all memory and the numbers
+ * as they were. But a refused yk_fresh or yk_open answers numbers that are all zero; and at 17 yk_open has
+ * zeroed table and catalogue, and the index as far as the log's records need it. */
+#ifndef YOKEFENNEL_H
+#define YOKEFENNEL_H
+
+#include <stddef.h>
+#include <stdint.h>
+
+#ifdef __cplusplus
+extern "C" {
+#endif
+
+/* Why a call was refused: the question answered no. */
+enum yk_question {
+    YK_ACCEPTED = 0,         /* none was */
+    YK_HEADER = 1,           /* the numbers, the header and the lent lengths do not fit each other */
+    YK_ORDER = 2,            /* order is not 2 to 64 */
+    YK_PAGE_SIZE = 3,        /* records per page are not 2 to 64 */
+    YK_ROW_LIMIT = 4,        /* the row limit is not 1 to 1,024 */
+    YK_MEMORY = 5,           /* log, index or table is too short, or there are too many records */
+    YK_TIME_NOT_ABOVE = 6,   /* the time is not above the last */
+    YK_ARTICLE_PRESENT = 7,  /* to insert, the article must be absent */
+    YK_ARTICLE_ABSENT = 8,   /* to delete or update, it must be present */
+    YK_ROWS_FULL = 9,        /* as many rows are live as the limit allows */
+    YK_LOG_FULL = 10,        /* no space for the record, or for an update's two */
+    YK_INDEX_FULL = 11,      /* no space for the nodes then needed */
+    YK_TIME_AFTER_LAST = 12, /* the time asked for is after the last */
+    YK_OUTPUT_SHORT = 13,    /* the output is too short */
+    YK_NOT_TO_KEEP = 14,     /* time 0, or kept already */
+    YK_CATALOGUE_FULL = 15,  /* no space for a count file */
+    YK_NOT_KEPT = 16,        /* no count file of that time */
+    YK_WRONG_RECORD = 17     /* the log is not legal; `record` says where */
+};
+
+/* The store's numbers. */
+typedef struct yk_numbers {
+    uint16_t order;   /* order of the packed tree, 2 to 64 */
+    uint16_t page;    /* records per page, 2 to 64 */
+    uint32_t limit;   /* row limit, 1 to 1,024 */
+    uint32_t records; /* records in the log */
+    uint64_t last;    /* time of the last request, 0 if there is none */
+    uint32_t live;    /* rows of the current table */
+    uint32_t files;   /* count files held */
+} yk_numbers;
+
+/* What a call that may change the store answers. */
+typedef struct yk_change {
+    yk_numbers numbers; /* for the next call */
+    uint8_t question;   /* an enum yk_question */
+    uint32_t record;    /* at 17 a record such that the log is wrong up to it, or the number of records where
+                           only the header's last time is wrong; else 0 */
+} yk_change;
+
+typedef struct yk_position_answer {
+    uint8_t question; /* an enum yk_question */
+    uint32_t page;    /* the page position, 0 where refused */
+} yk_position_answer;
+
+typedef struct yk_table_answer {
+    uint8_t question;  /* an enum yk_question; all else is 0 where refused */
+    uint32_t rows;     /* rows of the table */
+    uint8_t later;     /* 1 if it was worked out from a table at or after its time, else 0 */
+    uint32_t distance; /* how many pages that table is away */
+} yk_table_answer;
+
+/* Starts an empty store: writes the header, zeroes table and catalogue. Refuses by 2, 3, 4, 5. */
+yk_change yk_fresh(uint16_t order, uint16_t page, uint32_t limit, uint8_t *log, size_t log_length,
+    uint8_t *table, size_t table_length, uint64_t *times, size_t times_length, uint32_t *rows,
+    size_t rows_length, const uint8_t *areas, size_t areas_length);
+
+/* Takes up a written log: makes index and table anew, zeroes the catalogue. Refuses by 1 to 5 and 17. */
+yk_change yk_open(const uint8_t *log, size_t log_length, uint64_t *index, size_t index_length, uint8_t *table,
+    size_t table_length, uint64_t *times, size_t times_length, uint32_t *rows, size_t rows_length,
+    const uint8_t *areas, size_t areas_length);
+
+/* Adds an article with a count at a time above the last. Refuses by 1, 6, 7, 9, 10, 11. */
+yk_change yk_insert(yk_numbers numbers, uint8_t *log, size_t log_length, uint64_t *index, size_t index_length,
+    uint8_t *table, size_t table_length, const uint64_t *times, size_t times_length, const uint32_t *rows,
+    size_t rows_length, const uint8_t *areas, size_t areas_length, uint64_t time, uint32_t article,
+    uint32_t count);
+
+/* Removes a present article. Refuses by 1, 6, 8, 10, 11. */
+yk_change yk_delete(yk_numbers numbers, uint8_t *log, size_t log_length, uint64_t *index, size_t index_length,
+    uint8_t *table, size_t table_length, const uint64_t *times, size_t times_length, const uint32_t *rows,
+    size_t rows_length, const uint8_t *areas, size_t areas_length, uint64_t time, uint32_t article);
+
+/* Gives a present article another count, or the same: two records. Refuses by 1, 6, 8, 10, 11. */
+yk_change yk_update(yk_numbers numbers, uint8_t *log, size_t log_length, uint64_t *index, size_t index_length,
+    uint8_t *table, size_t table_length, const uint64_t *times, size_t times_length, const uint32_t *rows,
+    size_t rows_length, const uint8_t *areas, size_t areas_length, uint64_t time, uint32_t article,
+    uint32_t count);
+
+/* The page position of a time. Refuses by 1, 12. */
+yk_position_answer yk_position(yk_numbers numbers, const uint8_t *log, size_t log_length, const uint64_t *index,
+    size_t index_length, const uint8_t *table, size_t table_length, const uint64_t *times, size_t times_length,
+    const uint32_t *rows, size_t rows_length, const uint8_t *areas, size_t areas_length, uint64_t time);
+
+/* The table of a time, into out: rows of article and count, 4 bytes each, little-endian, ascending by
+ * article, zeros after them. Refuses by 1, 12, 13. */
+yk_table_answer yk_table(yk_numbers numbers, const uint8_t *log, size_t log_length, const uint64_t *index,
+    size_t index_length, const uint8_t *table, size_t table_length, const uint64_t *times, size_t times_length,
+    const uint32_t *rows, size_t rows_length, const uint8_t *areas, size_t areas_length, uint64_t time,
+    uint8_t *out, size_t out_length);
+
+#ifdef __cplusplus
+}
+#endif
+
+#endif

@@ -1,0 +1,128 @@
+//! The calls as include/yokefennel.h declares them. A slice is a pointer and the number of its elements.
+
+use crate::store::Numbers;
+
+#[repr(C)]
+#[derive(Clone, Copy)]
+pub struct YkNumbers {
+    order: u16,
+    page: u16,
+    limit: u32,
+    records: u32,
+    last: u64,
+    live: u32,
+    files: u32,
+}
+
+impl From<Numbers> for YkNumbers {
+    fn from(s: Numbers) -> YkNumbers {
+        let Numbers { order, page_size, row_limit, records, last, live, files } = s;
+        YkNumbers { order, page: page_size, limit: row_limit, records, last, live, files }
+    }
+}
+
+impl From<YkNumbers> for Numbers {
+    fn from(s: YkNumbers) -> Numbers {
+        let YkNumbers { order, page, limit, records, last, live, files } = s;
+        Numbers { order, page_size: page, row_limit: limit, records, last, live, files }
+    }
+}
+
+#[repr(C)]
+pub struct YkChange {
+    pub numbers: YkNumbers,
+    pub question: u8,
+    pub record: u32,
+}
+
+#[repr(C)]
+pub struct YkPosition {
+    pub question: u8,
+    pub page: u32,
+}
+
+#[repr(C)]
+pub struct YkTable {
+    pub question: u8,
+    pub rows: u32,
+    pub later: u8,
+    pub distance: u32,
+}
+
+// one region to a line, its length beside it
+#[rustfmt::skip]
+extern "C" {
+    pub fn yk_fresh(
+        order: u16, page: u16, limit: u32,
+        log: *mut u8, log_length: usize,
+        table: *mut u8, table_length: usize,
+        times: *mut u64, times_length: usize,
+        rows: *mut u32, rows_length: usize,
+        areas: *const u8, areas_length: usize,
+    ) -> YkChange;
+
+    pub fn yk_open(
+        log: *const u8, log_length: usize,
+        index: *mut u64, index_length: usize,
+        table: *mut u8, table_length: usize,
+        times: *mut u64, times_length: usize,
+        rows: *mut u32, rows_length: usize,
+        areas: *const u8, areas_length: usize,
+    ) -> YkChange;
+
+    pub fn yk_insert(
+        numbers: YkNumbers,
+        log: *mut u8, log_length: usize,
+        index: *mut u64, index_length: usize,
+        table: *mut u8, table_length: usize,
+        times: *const u64, times_length: usize,
+        rows: *const u32, rows_length: usize,
+        areas: *const u8, areas_length: usize,
+        time: u64, article: u32, count: u32,
+    ) -> YkChange;
+
+    pub fn yk_delete(
+        numbers: YkNumbers,
+        log: *mut u8, log_length: usize,
+        index: *mut u64, index_length: usize,
+        table: *mut u8, table_length: usize,
+        times: *const u64, times_length: usize,
+        rows: *const u32, rows_length: usize,
+        areas: *const u8, areas_length: usize,
+        time: u64, article: u32,
+    ) -> YkChange;
+
+    pub fn yk_update(
+        numbers: YkNumbers,
+        log: *mut u8, log_length: usize,
+        index: *mut u64, index_length: usize,
+        table: *mut u8, table_length: usize,
+        times: *const u64, times_length: usize,
+        rows: *const u32, rows_length: usize,
+        areas: *const u8, areas_length: usize,
+        time: u64, article: u32, count: u32,
+    ) -> YkChange;
+
+    pub fn yk_position(
+        numbers: YkNumbers,
+        log: *const u8, log_length: usize,
+        index: *const u64, index_length: usize,
+        table: *const u8, table_length: usize,
+        times: *const u64, times_length: usize,
+        rows: *const u32, rows_length: usize,
+        areas: *const u8, areas_length: usize,
+        time: u64,
+    ) -> YkPosition;
+
+    pub fn yk_table(
+        numbers: YkNumbers,
+        log: *const u8, log_length: usize,
+        index: *const u64, index_length: usize,
+        table: *const u8, table_length: usize,
+        times: *const u64, times_length: usize,
+        rows: *const u32, rows_length: usize,
+        areas: *const u8, areas_length: usize,
+        time: u64,
+        out: *mut u8, out_length: usize,
+    ) -> YkTable;
+}
