@@ -53,7 +53,7 @@ unfolding heldsOf filesFrom
 helds-are-files entries k c has zero h = refl
 helds-are-files entries k c has (suc j) h =
     let n : j < length entries = omega (arith, has .lent) in
-    rw (files-from-snoc entries j n, helds-are-files entries k c has j (omega arith), has .times-are j (omega arith), has .rows-are j (omega arith))
+    rw (files-from-snoc entries j n, helds-are-files entries k c has j (omega arith), has .entries-are j (omega arith))
 
 pub latest-helds : (c : Catalogue) (t i : ℕ) (best : Held)
     → latest t best (heldsOf c (i + 1))

@@ -1,4 +1,3 @@
 pub mod Candidates
 pub mod Nearest
 pub mod EntryLaws
-pub mod Bodies

@@ -1,15 +1,24 @@
--- The catalogue of count files by value: at most 16 files, their times and row counts in two arrays. Assumes nothing.
+-- The catalogue of count files by value: at most 16 entries, and how many are lent. `byValue` and `writtenBack` are what
+-- the calls' contracts cite. Assumes nothing.
 use Prim.Native.Nat.{ℕ, _≤_, _<_}
 use mathlib.Core.Path.{_≡_}
-use mathlib.Core.List.{List}
-use lib.ListN.{length, getD}
+use mathlib.Core.List.{List, _++_}
+use lib.ListN.{length, take, getD, replicate}
+use Rattle.codec.specs.Parts.{put}
 use Rattle.model.specs.declared.Entry.{Entry}
 use Rattle.model.specs.Memory.{noEntry}
 use Rattle.catalogue.specs.declared.Catalogue.{Catalogue}
+
+-- the lent entries by value: the first 16 of them, zero entries where there are fewer, and how many there are
+abbrev pub byValue : List Entry → Catalogue
+byValue lent = record { entries = take 16 (lent ++ replicate 16 noEntry); lent = length lent }
+
+-- the lent entries with those of a catalogue by value written back
+abbrev pub writtenBack : List Entry → Catalogue → List Entry
+writtenBack lent c = put lent 0 (take (length lent) (c .entries))
 
 -- c holds the first k of the lent entries
 pub record Loaded (entries : List Entry) (k : ℕ) (c : Catalogue) : Type 0 where
   pub few : k ≤ 16
   pub lent : k ≤ length entries
-  pub times-are : (i : ℕ) → i < k → getD (c .times) i 0 ≡ getD entries i noEntry .time
-  pub rows-are : (i : ℕ) → i < k → getD (c .rows) i 0 ≡ getD entries i noEntry .rows
+  pub entries-are : (i : ℕ) → i < k → getD (c .entries) i noEntry ≡ getD entries i noEntry

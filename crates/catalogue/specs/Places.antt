@@ -4,13 +4,14 @@ use Prim.Native.Nat.{ℕ, zero, suc, _<_}
 use mathlib.Core.List.{List, [], _∷_, _++_}
 use lib.ListN.{getD}
 use Rattle.model.specs.declared.Held.{Held}
+use Rattle.model.specs.Memory.{noEntry}
 use Rattle.model.specs.declared.Place.{Place}
 use Rattle.model.specs.declared.Place.the-variants.{Empty, Area, Current}
 use Rattle.catalogue.specs.declared.Catalogue.{Catalogue}
 
 -- the table of file i, its rows in area i
 abbrev pub heldAt : Catalogue → ℕ → Held
-heldAt c i = record { time = getD (c .times) i 0; place = Area i; rows = getD (c .rows) i 0 }
+heldAt c i = record { time = getD (c .entries) i noEntry .time; place = Area i; rows = getD (c .entries) i noEntry .rows }
 
 -- those of the first k files
 unfoldable pub heldsOf : Catalogue → ℕ → List Held

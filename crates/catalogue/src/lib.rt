@@ -1,27 +1,26 @@
-// The catalogue of count files (01, "Count files"): its capacity, and which count file is nearest to a time on either side.
+// The catalogue of count files by value (01, "Count files"): its capacity, and which count file is nearest to a time on
+// either side. How its entries are lent, and how they come here, is the crate `entries`.
 ghost use mathlib.Core.Path.{_≡_};
 ghost use mathlib.Core.List.{List};
 ghost use mathlib.Core.Bool.{_&&_, cond};
 ghost use Prim.Native.Nat.{ℕ, _≤_, _<_, min};
-ghost use lib.ListN.{length, take, getD, replicate};
+ghost use lib.ListN.{take, getD};
 ghost use lib.Dec.{leb, ltb};
 ghost use Rattle.model.specs.declared.Entry.{Entry};
 ghost use Rattle.model.specs.Outset.{emptyTable, filesFrom, latest, earliest};
 ghost use Rattle.model.specs.Memory as memory;
 ghost use Rattle.model.specs.Memory.{noEntry};
-ghost use Rattle.codec.specs.Parts.{put};
 ghost use Rattle.catalogue.specs.Files.{Loaded};
-ghost use Rattle.catalogue.specs.Entries.{blankCatalogue, withEntry, entryOf, entriesOf};
 ghost use Rattle.catalogue.specs.Places.{heldAt, PlaceWithin};
 use model::Entry;
 use model::Held;
 use model::Place;
 use model::Settings;
 
-// The catalogue by value: the times and row counts of up to 16 count files, in the order of the entries.
+// The catalogue by value: the first 16 entries, zero entries where fewer are lent, and how many are lent.
 pub struct Catalogue {
-    pub times: [u64; 16],
-    pub rows: [u32; 16],
+    pub entries: [Entry; 16],
+    pub lent: usize,
 }
 
 fn least(a: usize, b: usize) -> usize
@@ -45,14 +44,11 @@ pub fn capacity(limit: u32, entries: usize, area_bytes: usize) -> usize
 }
 
 // Entry i of a catalogue, and the table that its file holds.
-fn entry_of(c: Catalogue, i: usize) -> Entry
+pub fn entry_of(c: Catalogue, i: usize) -> Entry
     requires { ⌜ i < 16 ⌝ }
-    ensures { λ r. ⌜ r ≡ entryOf c i ⌝ }
+    ensures { λ r. ⌜ r ≡ getD (c .entries) i noEntry ⌝ }
 {
-    Entry {
-        time: c.times[i],
-        rows: c.rows[i],
-    }
+    c.entries[i]
 }
 
 fn held_at(c: Catalogue, i: usize) -> Held
@@ -127,85 +123,3 @@ pub fn later(c: Catalogue, files: usize, t: u64, current: Held) -> Held
     best
 }
 
-// ---- the lent entries: only these functions and the calls' outermost see them, all else has the catalogue by value
-
-pub fn count(entries: &[Entry]) -> usize
-    ensures { λ r. ⌜ r ≡ length (now (entries .entry)) ⌝ }
-{
-    entries.len()
-}
-
-fn read(entries: &[Entry], i: usize) -> Entry
-    requires { ⌜ i < length (now entries) ⌝ }
-    ensures { λ r. ⌜ r ≡ getD (now (entries .entry)) i noEntry ⌝ }
-{
-    entries[i]
-}
-
-// The entry at i, and an entry of zeros past the end.
-fn read_or(entries: &[Entry], i: usize) -> Entry
-    ensures { λ r. ⌜ r ≡ getD (now (entries .entry)) i noEntry ⌝ }
-{
-    if i < entries.len() {
-        return read(entries, i);
-    }
-    Entry { time: 0, rows: 0 }
-}
-
-fn blank() -> Catalogue
-    ensures { λ r. ⌜ r ≡ blankCatalogue ⌝ }
-{
-    Catalogue {
-        times: [0; 16],
-        rows: [0; 16],
-    }
-}
-
-fn with_entry(c: Catalogue, i: usize, e: Entry) -> Catalogue
-    requires { ⌜ i < 16 ⌝ }
-    ensures { λ r. ⌜ r ≡ withEntry c i e ⌝ }
-{
-    let mut d = c;
-    d.times[i] = e.time;
-    d.rows[i] = e.rows;
-    d
-}
-
-// The first 16 entries by value, zeros past the end.
-pub fn load(entries: &[Entry]) -> Catalogue
-    ensures { λ r. ⌜ ((k : ℕ) → k ≤ 16 → k ≤ length (now (entries .entry)) → Loaded (now (entries .entry)) k r) ⌝ }
-{
-    let mut c = blank();
-    let mut i = 0;
-    while i < 16 {
-        c = with_entry(c, i, read_or(entries, i));
-        i += 1;
-    }
-    c
-}
-
-// The first k entries of a catalogue, written back.
-pub fn save(entries: &mut [Entry], c: Catalogue, k: usize)
-    requires { ⌜ (k ≤ 16) × (k ≤ length (now entries)) ⌝ }
-    ensures { λ _. ⌜ now (entries .exit) ≡ put (now (entries .entry)) 0 (entriesOf c k) ⌝ }
-{
-    let mut i = 0;
-    while i < k {
-        let next = entry_of(c, i);
-        entries[i] = next;
-        i += 1;
-    }
-}
-
-// The first k entries made zero.
-pub fn clear(entries: &mut [Entry], k: usize)
-    requires { ⌜ k ≤ length (now entries) ⌝ }
-    ensures { λ _. ⌜ now (entries .exit) ≡ put (now (entries .entry)) 0 (replicate k noEntry) ⌝ }
-{
-    let mut i = 0;
-    while i < k {
-        let e = Entry { time: 0, rows: 0 };
-        entries[i] = e;
-        i += 1;
-    }
-}

@@ -7,10 +7,9 @@ use lib.ListN.{length, getD, length-append}
 use Rattle.codec.specs.Parts.{put}
 use Rattle.codec.proofs.Numbers.{are-bytes-put}
 use Rattle.codec.proofs.PartLaws.{length-put}
-use Rattle.model.specs.Records.{Rec, recordsBytes, headerBytes}
+use Rattle.model.specs.Records.{Rec, noRecord, recordsBytes, headerBytes}
 use Rattle.model.specs.Rows.{tableBytes}
 use Rattle.model.specs.Timeslice.{timeslice, table}
-use Rattle.model.specs.Legal.{noRecord}
 use Rattle.model.specs.Pages.{pagesOf, pageTimes}
 use Rattle.model.specs.Tree.{indexWords}
 use Rattle.model.specs.Memory.{State, logOf}

@@ -10,10 +10,10 @@ use lib.Dec.{leb, ltb}
 use borrow.Author.Tests.{leb-true, ltb-true, not-true}
 use Rattle.model.specs.Answers.{question, firstNo}
 use Rattle.model.specs.Settings.{recordsInRange}
-use Rattle.model.specs.Records.{Rec, insertion, deletion}
+use Rattle.model.specs.Records.{Rec, noRecord, insertion, deletion}
 use Rattle.model.specs.Rows.{Row, lacks, countOf}
 use Rattle.model.specs.Timeslice.{table}
-use Rattle.model.specs.Legal.{noRecord, legal, lastTime}
+use Rattle.model.specs.Legal.{legal, lastTime}
 use Rattle.model.specs.Pages.{indexNeed}
 use Rattle.model.specs.Memory.{State, logOf, rowsNow, sound, logLong, indexLong}
 use Rattle.model.specs.Changes.{roomFor, insertQuestions, presentQuestions, insertOf, deleteOf, updateOf}

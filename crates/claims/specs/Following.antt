@@ -4,8 +4,8 @@ use mathlib.Core.Path.{_≡_}
 use mathlib.Core.List.{List, _++_}
 use mathlib.Core.Bool.{true}
 use lib.ListN.{length, getD}
-use Rattle.model.specs.Records.{Rec}
-use Rattle.model.specs.Legal.{noRecord, legal, lastTime}
+use Rattle.model.specs.Records.{Rec, noRecord}
+use Rattle.model.specs.Legal.{legal, lastTime}
 use Rattle.model.specs.Pages.{indexNeed}
 use Rattle.model.specs.Memory.{State, logOf}
 use Rattle.log.specs.Widths.{AllFit}

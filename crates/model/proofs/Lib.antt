@@ -12,6 +12,7 @@ pub mod WalkLaws
 pub mod KeyLaws
 pub mod PageCounts
 pub mod PageLaws
+pub mod PromiseLaws
 pub mod AppendLaws
 pub mod RecordLaws
 pub mod AuditLaws

@@ -6,11 +6,11 @@ use mathlib.Core.List.{List, _++_}
 use mathlib.Core.Bool.{true}
 use lib.ListN.{length, getD, take, drop, take-append-drop}
 use lib.Seq.{take-take, take-suc}
-use Rattle.model.specs.Records.{Rec}
+use Rattle.model.specs.Records.{Rec, noRecord}
 use Rattle.model.specs.Rows.{Row}
 use Rattle.model.specs.Timeslice.{table, timeslice}
 use Rattle.model.specs.Carry.{carried, undone, carriedAll, undoneAll}
-use Rattle.model.specs.Legal.{noRecord, legal}
+use Rattle.model.specs.Legal.{legal}
 use Rattle.model.specs.Pages.{recordsUpTo}
 use Rattle.model.proofs.SliceLaws.{asc-table, table-snoc, table-append, undone-carried}
 use Rattle.model.proofs.UpToLaws.{records-up-to-le}

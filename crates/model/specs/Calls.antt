@@ -1,14 +1,17 @@
--- Lists of calls (01, "Lists of calls"): starts, calls, and what a list leaves, made of the very definitions that
--- the calls' contracts cite; and the states that accepted calls leave. Assumes nothing.
+-- Lists of calls (01, "Lists of calls"): starts, calls, what each answers and what a list leaves, made of the very
+-- definitions that the calls' contracts cite; and the states that accepted calls leave. Assumes nothing.
 use Prim.Native.Nat.{ℕ, _^_, _<_}
 use mathlib.Core.Path.{_≡_}
 use mathlib.Core.List.{List, [], _∷_}
+use mathlib.Core.Bool.{Bool}
 use Rattle.codec.specs.LittleEndian.{AreBytes}
-use Rattle.model.specs.Answers.{Outcome, answers}
+use Rattle.model.specs.Answers.{Outcome, answers, TableSaid}
 use Rattle.model.specs.Memory.{Memory, State, Lendable}
 use Rattle.model.specs.Starts.{After, freshOf, openOf}
 use Rattle.model.specs.Changes.{insertOf, deleteOf, updateOf}
+use Rattle.model.specs.Queries.{Written, Viewed, Netted, positionOf, tableOf, viewOf, netOf}
 use Rattle.model.specs.Files.{keepOf, dropOf}
+use Rattle.model.specs.Audit.{auditOf}
 
 -- "A list of demand 3 starts at an accepted fresh store or opening"
 pub data Start : Type 0 where
@@ -44,6 +47,27 @@ step st (netChange a b out work) = st
 step st (keep t) = keepOf st t .state
 step st (drop t) = dropOf st t .state
 step st audit = st
+
+-- what a call answers, with what it leaves in an output and a workspace of its own
+pub data Said : Type 0 where
+  changed : Outcome Unit → Said
+  positioned : Outcome ℕ → Said
+  written : Written TableSaid → Said
+  viewed : Viewed → Said
+  netted : Netted → Said
+  audited : Bool → Said
+
+unfoldable pub answerOf : State → Call → Said
+answerOf st (insert t a c) = changed (insertOf st t a c .outcome)
+answerOf st (delete t a) = changed (deleteOf st t a .outcome)
+answerOf st (update t a c) = changed (updateOf st t a c .outcome)
+answerOf st (position t) = positioned (positionOf st t)
+answerOf st (table t out) = written (tableOf st t out)
+answerOf st (view t) = viewed (viewOf st t)
+answerOf st (netChange a b out work) = netted (netOf st a b out work)
+answerOf st (keep t) = changed (keepOf st t .outcome)
+answerOf st (drop t) = changed (dropOf st t .outcome)
+answerOf st audit = audited (auditOf st)
 
 -- "Each call gets the store's numbers and the lent [memory] as the last one returned or left them"
 unfoldable pub run : State → List Call → State

@@ -1,28 +1,33 @@
--- The mission's demands 2 and 3 and the audit's exactness, as statements over lists of calls. Which of them is
--- proved, and where, is listed in docs/PROMISES.md. Demand 1 is the contracts of the calls. Assumes nothing.
+-- The mission's demands 2 and 3 and the audit's exactness, as statements over lists of calls, and the same of calls that
+-- are made by code (`Chains`). Which of them is proved, and where, is listed in docs/PROMISES.md. Demand 1 is the contracts
+-- of the calls. Assumes nothing.
 use Prim.Native.Nat.{ℕ, _+_, _*_, _≤_}
 use mathlib.Core.Path.{_≡_}
-use mathlib.Core.Logic.{_↔_}
-use mathlib.Core.List.{List, List·Memᴰ}
-use mathlib.Core.Bool.{true}
+use mathlib.Core.Logic.{_⊎_, _↔_}
+use mathlib.Core.List.{List, [], _∷_, List·Memᴰ}
+use mathlib.Core.Bool.{Bool, true, false, not, _&&_, _||_}
 use lib.ListN.{length, take}
+use lib.Dec.{eqb}
 use Rattle.codec.specs.LittleEndian.{AreBytes}
 use Rattle.model.specs.declared.Side.{Side}
 use Rattle.model.specs.declared.Side.the-variants.{Earlier, Later}
 use Rattle.model.specs.Answers.{Outcome, answers, TableSaid}
-use Rattle.model.specs.Rows.{Row, hasRow, sameRows, rowsBytes, Ascending}
-use Rattle.model.specs.Timeslice.{InSlice}
+use Rattle.model.specs.Rows.{Row, hasRow, tableBytes, Ascending}
+use Rattle.model.specs.Timeslice.{InReport}
 use Rattle.model.specs.Numbering.{nodeWord}
 use Rattle.model.specs.Tree.{Packed}
 use Rattle.model.specs.Pages.{indexNeed}
 use Rattle.model.specs.Memory.{Memory, State, Lendable, Passable, logOf, keysOf}
 use Rattle.model.specs.declared.Held.{Held}
-use Rattle.model.specs.Outset.{held, measure, distance, earlierFor, laterFor, outsetFor}
-use Rattle.model.specs.NetChange.{Change, netChange, changesBytes, leads}
+use Rattle.model.specs.Outset.{held, measure, earlierFor, laterFor}
+use Rattle.model.specs.NetChange.{Change, netChangeBytes, leads}
 use Rattle.model.specs.Starts.{openOf}
-use Rattle.model.specs.Queries.{tableOf, tableSaid, rowsAt, netOf}
+use Rattle.model.specs.Queries.{Written, Netted, tableOf, rowsAt, netOf}
+use Rattle.model.specs.Files.{filesOf, isKept, keepOf, dropOf}
 use Rattle.model.specs.Audit.{Audited}
-use Rattle.model.specs.Calls.{Start, StartFits, begun, Call, AllFit, run, Accepted, Reachable}
+use Rattle.model.specs.Promises.{isRefused}
+use Rattle.model.specs.Calls.{Start, StartFits, begun, Call, CallFits, AllFit, Said, written, netted, answerOf, step, run, Accepted, Reachable}
+use Rattle.model.specs.Chains.{Carried, RanFrom}
 
 -- the state that a start and a list of calls leave
 abbrev pub left : Start → List Call → State
@@ -43,12 +48,15 @@ AuditExact = (st : State) → Passable (st .numbers) → Lendable (st .memory) �
 -- ---- demand 2
 
 -- "the table for a time up to the last request is the report's timeslice of the log": the call is accepted, it answers
--- the number of the rows that it writes, they ascend, and they are those of the report's set
-pub record TableIsTimeslice (st : State) (t : ℕ) (out : List ℕ) : Type 0 where
-  pub answered : tableOf st t out .outcome ≡ answers (tableSaid st t)
-  pub written : take (8 * length (rowsAt st t)) (tableOf st t out .output) ≡ rowsBytes (rowsAt st t)
-  pub ascending : Ascending 0 (rowsAt st t)
-  pub rows-are : (q : Row) → (hasRow q (rowsAt st t) ≡ true) ↔ InSlice t q (logOf st)
+-- the number of the rows that it writes, zeros behind them, they ascend, and they are those of the report's set
+pub record TableIsTimeslice (st : State) (t : ℕ) (table : Written TableSaid) : Type 0 where
+  pub said : TableSaid
+  pub rows : List Row
+  pub answered : table .outcome ≡ answers said
+  pub counted : said .rows ≡ length rows
+  pub stand : take (8 * st .numbers .limit) (table .output) ≡ tableBytes (st .numbers .limit) rows
+  pub ascending : Ascending 0 rows
+  pub rows-are : (q : Row) → (hasRow q rows ≡ true) ↔ InReport t q (logOf st)
 
 -- "the index is the report's packed tree over the page times"
 abbrev pub IndexIsPacked : State → Type 0
@@ -61,18 +69,19 @@ pub record HoldsLog (st : State) (m : Memory) : Type 0 where
   pub index-long : indexNeed (st .numbers .order) (st .numbers .page) (st .numbers .records) ≤ length (m .index)
   pub table-long : 8 * st .numbers .limit ≤ length (m .table)
 
--- "Opening the written log gives the same index and current table"
+-- "Opening the written log gives the same index and current table": a table is its rows' number and its bytes
 pub record OpensAlike (st : State) (m : Memory) : Type 0 where
   pub accepted : Accepted (openOf m)
   pub same-index :
       let k = indexNeed (st .numbers .order) (st .numbers .page) (st .numbers .records) in
       take k (openOf m .state .memory .index) ≡ take k (st .memory .index)
+  pub same-live : openOf m .state .numbers .live ≡ st .numbers .live
   pub same-table :
       let k = 8 * st .numbers .limit in
       take k (openOf m .state .memory .table) ≡ take k (st .memory .table)
 
 pub record DemandTwo (st : State) : Type 0 where
-  pub tables : (t : ℕ) (out : List ℕ) → t ≤ st .numbers .last → 8 * st .numbers .limit ≤ length out → TableIsTimeslice st t out
+  pub tables : (t : ℕ) (out : List ℕ) → t ≤ st .numbers .last → 8 * st .numbers .limit ≤ length out → TableIsTimeslice st t (tableOf st t out)
   pub index : IndexIsPacked st
   pub reopened : (m : Memory) → Lendable m → HoldsLog st m → OpensAlike st m
 
@@ -81,14 +90,24 @@ SecondDemand = AfterEveryList DemandTwo
 
 -- ---- demand 3
 
--- of the net change from a to b, worked out into out and work
-pub record NetChangeIs (st : State) (a b : ℕ) (out work : List ℕ) : Type 0 where
-  -- the entries that the output holds, "whose number of entries is the one answered"
+-- "The same table means the same number of rows and the same 8 × R bytes; side and distance may differ"
+pub record SameTable (R : ℕ) (x y : Written TableSaid) : Type 0 where
+  pub said : TableSaid
+  pub said' : TableSaid
+  pub answered : x .outcome ≡ answers said
+  pub answered' : y .outcome ≡ answers said'
+  pub same-rows : said .rows ≡ said' .rows
+  pub same-bytes : take (8 * R) (x .output) ≡ take (8 * R) (y .output)
+
+-- of the net change from a to b, as it was answered
+pub record NetChangeIs (st : State) (a b : ℕ) (net : Netted) : Type 0 where
+  -- the entries that the output holds, zeros behind them, "whose number of entries is the one answered"
   pub entries : List Change
-  pub answered : netOf st a b out work .outcome ≡ answers (length entries)
-  pub written : take (12 * length entries) (netOf st a b out work .output) ≡ changesBytes entries
-  -- "two tables … are equal exactly when the net change worked out between them has no entry"
-  pub empty-iff-equal : (length entries ≡ 0) ↔ (sameRows (rowsAt st a) (rowsAt st b) ≡ true)
+  pub answered : net .outcome ≡ answers (length entries)
+  pub stand : take (24 * st .numbers .limit) (net .output) ≡ netChangeBytes (st .numbers .limit) entries
+  -- "two tables … are equal exactly when the net change worked out between them has no entry": the tables as answered
+  pub none-iff-same : (x y : List ℕ) → 8 * st .numbers .limit ≤ length x → 8 * st .numbers .limit ≤ length y
+      → (length entries ≡ 0) ↔ SameTable (st .numbers .limit) (tableOf st a x) (tableOf st b y)
   -- "leads from the one to the other, and no list of fewer legal insertions and deletions does"
   pub leads-there : leads entries (rowsAt st a) (rowsAt st b) ≡ true
   pub fewest : (others : List Change) → leads others (rowsAt st a) (rowsAt st b) ≡ true → length entries ≤ length others
@@ -98,42 +117,94 @@ unfoldable pub candidate : State → ℕ → Side → Held
 candidate st t Earlier = earlierFor st t
 candidate st t Later = laterFor st t
 
+-- d is the larger less the smaller of x and y: the smaller and d make the larger
+abbrev pub Apart : (d x y : ℕ) → Type 0
+Apart d x y = (x + d ≡ y) ⊎ (y + d ≡ x)
+
 -- "Every other outset then held lies at least as many log pages from the wanted time as the one used, whose distance
 -- in pages is the one reported"
-pub record OutsetIsNearest (st : State) (t : ℕ) (out : List ℕ) : Type 0 where
+pub record OutsetIsNearest (st : State) (t : ℕ) (table : Written TableSaid) : Type 0 where
   pub said : TableSaid
-  pub answered : tableOf st t out .outcome ≡ answers said
-  pub reported : said .distance ≡ distance (measure st) t (candidate st t (said .side))
+  pub answered : table .outcome ≡ answers said
   pub is-held : List·Memᴰ (candidate st t (said .side)) (held st)
-  pub nearest : (h : Held) → List·Memᴰ h (held st) → said .distance ≤ distance (measure st) t h
+  pub reported : Apart (said .distance) (measure st t) (measure st (candidate st t (said .side) .time))
+  pub nearest : (h : Held) (d : ℕ) → List·Memᴰ h (held st) → Apart d (measure st t) (measure st (h .time)) → said .distance ≤ d
 
 pub record DemandThree (st : State) : Type 0 where
   pub net-changes : (a b : ℕ) (out work : List ℕ) → a ≤ st .numbers .last → b ≤ st .numbers .last
-      → 24 * st .numbers .limit ≤ length out → 16 * st .numbers .limit ≤ length work → NetChangeIs st a b out work
-  pub outsets : (t : ℕ) (out : List ℕ) → t ≤ st .numbers .last → 8 * st .numbers .limit ≤ length out → OutsetIsNearest st t out
+      → 24 * st .numbers .limit ≤ length out → 16 * st .numbers .limit ≤ length work → NetChangeIs st a b (netOf st a b out work)
+  pub outsets : (t : ℕ) (out : List ℕ) → t ≤ st .numbers .last → 8 * st .numbers .limit ≤ length out → OutsetIsNearest st t (tableOf st t out)
 
 -- "One log means the same header and the same n records, byte for byte"
 pub record OneLog (st other : State) : Type 0 where
   pub same-count : st .numbers .records ≡ other .numbers .records
   pub same-bytes : take (24 + 24 * st .numbers .records) (st .memory .log) ≡ take (24 + 24 * st .numbers .records) (other .memory .log)
 
--- "The same table means the same number of rows and the same 8 × R bytes; side and distance may differ"
-pub record OneTable (st other : State) (t : ℕ) (out out' : List ℕ) : Type 0 where
-  pub said : TableSaid
-  pub said' : TableSaid
-  pub answered : tableOf st t out .outcome ≡ answers said
-  pub answered' : tableOf other t out' .outcome ≡ answers said'
-  pub same-rows : said .rows ≡ said' .rows
-  pub same-bytes : take (8 * st .numbers .limit) (tableOf st t out .output) ≡ take (8 * st .numbers .limit) (tableOf other t out' .output)
+-- for each time up to the last, two stores answer the same table
+abbrev pub OneTable : State → State → Type 0
+OneTable st other =
+    (t : ℕ) (out out' : List ℕ) → t ≤ st .numbers .last → 8 * st .numbers .limit ≤ length out → 8 * st .numbers .limit ≤ length out'
+    → SameTable (st .numbers .limit) (tableOf st t out) (tableOf other t out')
 
 -- "Whichever count files were kept or deleted, two such lists of calls that leave one log give the same table"
 abbrev pub SameTables : Type 0
 SameTables =
     (s s' : Start) (cs cs' : List Call) → StartFits s → StartFits s' → AllFit cs → AllFit cs' → Accepted (begun s) → Accepted (begun s')
-    → OneLog (left s cs) (left s' cs') → (t : ℕ) (out out' : List ℕ) → t ≤ left s cs .numbers .last
-    → 8 * left s cs .numbers .limit ≤ length out → 8 * left s cs .numbers .limit ≤ length out'
-    → OneTable (left s cs) (left s' cs') t out out'
+    → OneLog (left s cs) (left s' cs') → OneTable (left s cs) (left s' cs')
+
+-- "a count file [is held] from the accepted keep of its time until an accepted call deletes it": whether one of time t
+-- is held after a call, and after a list of calls
+unfoldable pub heldNext : ℕ → Bool → State → Call → Bool
+heldNext t before st (Call.insert u a c) = before
+heldNext t before st (Call.delete u a) = before
+heldNext t before st (Call.update u a c) = before
+heldNext t before st (Call.position u) = before
+heldNext t before st (Call.table u out) = before
+heldNext t before st (Call.view u) = before
+heldNext t before st (Call.netChange a b out work) = before
+heldNext t before st (Call.keep u) = before || (eqb u t && not (isRefused (keepOf st u .outcome)))
+heldNext t before st (Call.drop u) = before && not (eqb u t && not (isRefused (dropOf st u .outcome)))
+heldNext t before st Call.audit = before
+
+unfoldable pub heldAfter : ℕ → Bool → State → List Call → Bool
+heldAfter t before st [] = before
+heldAfter t before st (c ∷ cs) = heldAfter t (heldNext t before st c) (step st c) cs
+
+abbrev pub HeldSinceKept : Type 0
+HeldSinceKept =
+    (s : Start) (cs : List Call) → StartFits s → AllFit cs → Accepted (begun s) → (t : ℕ)
+    → isKept t (filesOf (left s cs)) ≡ heldAfter t false (begun s .state) cs
 
 pub record ThirdDemand : Type 0 where
   pub after-every-list : AfterEveryList DemandThree
   pub same-tables : SameTables
+  pub held-since-kept : HeldSinceKept
+
+-- ---- the same of calls that are made, each keeping the promise of its contract
+
+-- a call made on st answers what its definition gives and leaves what it says; so demands 2 and 3 hold of the answers
+pub record AnswersOf (st : State) : Type 0 where
+  pub each : (c : Call) (said : Said) (st' : State) → Carried st c said st' → (said ≡ answerOf st c) × (st' ≡ step st c)
+  pub tables : (t : ℕ) (out : List ℕ) (table : Written TableSaid) (st' : State) → t ≤ st .numbers .last → 8 * st .numbers .limit ≤ length out
+      → Carried st (Call.table t out) (written table) st' → TableIsTimeslice st t table × OutsetIsNearest st t table
+  pub net-changes : (a b : ℕ) (out work : List ℕ) (net : Netted) (st' : State) → a ≤ st .numbers .last → b ≤ st .numbers .last
+      → 24 * st .numbers .limit ≤ length out → 16 * st .numbers .limit ≤ length work
+      → Carried st (Call.netChange a b out work) (netted net) st' → NetChangeIs st a b net
+
+-- whatever list of calls is made from an accepted fresh store or opening: the store is what `run` gives, the audit says
+-- yes to it, and demands 2 and 3 hold of it and of what the next call on it answers
+pub record StoreKeeps (s : Start) (cs : List Call) (st : State) : Type 0 where
+  pub is-run : st ≡ left s cs
+  pub audited : Audited st
+  pub second : DemandTwo st
+  pub third : DemandThree st
+  pub answered : AnswersOf st
+
+abbrev pub CodeKeeps : Type 0
+CodeKeeps = (s : Start) (cs : List Call) (st : State) → StartFits s → AllFit cs → RanFrom s cs st → StoreKeeps s cs st
+
+-- two lists of calls made that leave one log answer the same table for each time
+abbrev pub CodeSameTables : Type 0
+CodeSameTables =
+    (s s' : Start) (cs cs' : List Call) (st st' : State) → StartFits s → StartFits s' → AllFit cs → AllFit cs'
+    → RanFrom s cs st → RanFrom s' cs' st' → OneLog st st' → OneTable st st'

@@ -10,7 +10,7 @@ use Rattle.model.specs.declared.Numbers.{Numbers}
 use Rattle.model.specs.declared.Entry.{Entry}
 use Rattle.model.specs.Answers.{Outcome, answers, Question, question, firstNo, unlessNo}
 use Rattle.model.specs.Rows.{tableBytes}
-use Rattle.model.specs.Memory.{Memory, State, state, noEntry, sound, capacityOf}
+use Rattle.model.specs.Memory.{Memory, State, state, noEntry, standing, capacityOf}
 use Rattle.model.specs.Starts.{After, after}
 use Rattle.model.specs.Changes.{unchanged}
 use Rattle.model.specs.Queries.{timeHeld, rowsAt}
@@ -65,8 +65,9 @@ isKept t (f ∷ fs) = eqb (f .entry .time) t || isKept t fs
 
 abbrev pub keepQuestions : State → ℕ → List Question
 keepQuestions st t =
-    question 1 (sound st) ∷ timeHeld st t ∷ question 14 (not (eqb t 0) && not (isKept t (filesOf st)))
-    ∷ question 15 (ltb (st .numbers .files) (capacityOf (st .numbers .limit) (st .memory))) ∷ []
+    standing st
+    ++ (timeHeld st t ∷ question 14 (not (eqb t 0) && not (isKept t (filesOf st)))
+    ∷ question 15 (ltb (st .numbers .files) (capacityOf (st .numbers .limit) (st .memory))) ∷ [])
 
 -- "ascending by time"; "Keeping shifts the later files up"
 unfoldable pub fileIn : File → List File → List File
@@ -86,19 +87,28 @@ keepOf st t =
 
 -- ---- drop
 
--- the files of other times
-unfoldable pub otherFiles : ℕ → List File → List File
-otherFiles t [] = []
-otherFiles t (f ∷ fs) = cond (eqb (f .entry .time) t) (otherFiles t fs) (f ∷ otherFiles t fs)
+-- the files whose entries a test lets stay
+unfoldable pub staying : (Entry → Bool) → List File → List File
+staying stays [] = []
+staying stays (f ∷ fs) = cond (stays (f .entry)) (f ∷ staying stays fs) (staying stays fs)
 
 -- "dropping shifts them down and zeroes the last used entry and area"
 abbrev pub closedUp : ℕ → ℕ → List File → List File
 closedUp R files fs = fs ++ replicate (files - length fs) (noFile R)
 
-unfoldable pub dropOf : State → ℕ → After
-dropOf st t =
+-- the store with only the files that the test lets stay
+abbrev pub reduced : (Entry → Bool) → State → State
+reduced stays st =
     let s = st .numbers in
-    let left = otherFiles t (filesOf st) in
-    unlessNo (firstNo (question 1 (sound st) ∷ question 16 (isKept t (filesOf st)) ∷ []))
-    (after (answers tt) (state (withCount s (length left)) (withFiles (closedUp (s .limit) (s .files) left) (st .memory))))
-    (unchanged st)
+    let left = staying stays (filesOf st) in
+    state (withCount s (length left)) (withFiles (closedUp (s .limit) (s .files) left) (st .memory))
+
+-- the entry is of another time
+abbrev pub notOf : ℕ → Entry → Bool
+notOf t e = not (eqb (e .time) t)
+
+abbrev pub dropQuestions : State → ℕ → List Question
+dropQuestions st t = standing st ++ (question 16 (isKept t (filesOf st)) ∷ [])
+
+unfoldable pub dropOf : State → ℕ → After
+dropOf st t = unlessNo (firstNo (dropQuestions st t)) (after (answers tt) (reduced (notOf t) st)) (unchanged st)

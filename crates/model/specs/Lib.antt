@@ -18,6 +18,7 @@ pub mod Audit
 pub mod Facts
 pub mod Promises
 pub mod Calls
+pub mod Chains
 pub mod Demands
 pub mod Shape
 pub mod Numbering

@@ -10,6 +10,7 @@ use Rattle.codec.specs.LittleEndian.{AreBytes}
 use Rattle.codec.specs.Parts.{put, same}
 use Rattle.model.specs.declared.Numbers.{Numbers}
 use Rattle.model.specs.declared.Entry.{Entry}
+use Rattle.model.specs.Answers.{Question, question}
 use Rattle.model.specs.Settings.{orderInRange, pageSizeInRange, rowLimitInRange, recordsInRange}
 use Rattle.model.specs.Records.{Rec, recordsOf, headerBytes}
 use Rattle.model.specs.Rows.{Row}
@@ -95,6 +96,10 @@ abbrev pub sound : State → Bool
 sound st =
     let m = st .memory in
     fits (st .numbers) (m .log) (length (m .index)) (length (m .table)) (length (m .catalogue)) (length (m .areas))
+
+-- the questions that every call but fresh store, opening and audit asks before its own
+abbrev pub standing : State → List Question
+standing st = question 1 (sound st) ∷ []
 
 -- ---- values of their types
 

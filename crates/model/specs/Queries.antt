@@ -12,7 +12,7 @@ use Rattle.model.specs.Answers.{Outcome, answers, refuses, Question, que
 use Rattle.model.specs.Rows.{Row, tableBytes}
 use Rattle.model.specs.Timeslice.{timeslice}
 use Rattle.model.specs.Tree.{pagePosition}
-use Rattle.model.specs.Memory.{Memory, State, logOf, keysOf, sound}
+use Rattle.model.specs.Memory.{Memory, State, logOf, keysOf, standing}
 use Rattle.model.specs.Outset.{outsetFor}
 use Rattle.model.specs.NetChange.{Change, netChange, netChangeBytes}
 
@@ -27,7 +27,7 @@ rowsAt st t = timeslice t (logOf st)
 -- ---- position
 
 abbrev pub timeQuestions : State → ℕ → List Question
-timeQuestions st t = question 1 (sound st) ∷ timeHeld st t ∷ []
+timeQuestions st t = standing st ++ (timeHeld st t ∷ [])
 
 unfoldable pub positionOf : State → ℕ → Outcome ℕ
 positionOf st t = unlessNo (firstNo (timeQuestions st t)) (answers (pagePosition (keysOf st) t)) refuses
@@ -40,7 +40,7 @@ pub record Written (A : Type 0) : Type 0 where
   pub output : List ℕ
 
 abbrev pub tableQuestions : State → ℕ → List ℕ → List Question
-tableQuestions st t out = question 1 (sound st) ∷ timeHeld st t ∷ question 13 (leb (8 * st .numbers .limit) (length out)) ∷ []
+tableQuestions st t out = standing st ++ (timeHeld st t ∷ question 13 (leb (8 * st .numbers .limit) (length out)) ∷ [])
 
 abbrev pub tableSaid : State → ℕ → TableSaid
 tableSaid st t =
@@ -89,8 +89,7 @@ pub record Netted : Type 0 where
 abbrev pub netQuestions : State → ℕ → ℕ → List ℕ → List ℕ → List Question
 netQuestions st a b out work =
     let R = st .numbers .limit in
-    question 1 (sound st) ∷ timeHeld st a ∷ timeHeld st b
-    ∷ question 13 (leb (24 * R) (length out) && leb (16 * R) (length work)) ∷ []
+    standing st ++ (timeHeld st a ∷ timeHeld st b ∷ question 13 (leb (24 * R) (length out) && leb (16 * R) (length work)) ∷ [])
 
 -- "The lent workspace of 16 × R bytes ends holding table a, then table b"
 unfoldable pub netOf : State → ℕ → ℕ → List ℕ → List ℕ → Netted

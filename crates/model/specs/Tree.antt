@@ -1,7 +1,8 @@
 -- The packed tree over a list of keys (01, "Packed tree"), and an index that holds it.
 -- `treeOf`, `withTree`, `Packed` and `pagePosition` are what contracts cite. Assumes nothing.
-use Prim.Native.Nat.{ℕ, zero, suc, _+_, _-_, _*_, _<_}
+use Prim.Native.Nat.{ℕ, zero, suc, _+_, _-_, _*_, _≤_, _<_}
 use mathlib.Core.Path.{_≡_}
+use mathlib.Core.Logic.{_⊎_}
 use mathlib.Core.List.{List, [], _∷_, _++_}
 use mathlib.Core.Bool.{cond}
 use lib.ListN.{length, getD, take, drop, replicate}
@@ -44,6 +45,15 @@ withoutNodes d k index = withNodes (nodeWord d) 0 (replicate k (zeros (d - 1))) 
 -- the index holds the packed tree over the keys
 abbrev pub Packed : (at : ℕ → ℕ) → ℕ → List ℕ → List ℕ → Type 0
 Packed at d keys index = (k : ℕ) → k < length (treeOf d keys) → take (d - 1) (drop (at k) index) ≡ getD (treeOf d keys) k []
+
+-- word i is in none of the first n nodes of w words
+abbrev pub Outside : (at : ℕ → ℕ) → (w n i : ℕ) → Type 0
+Outside at w n i = (k : ℕ) → k < n → (i < at k) ⊎ (at k + w ≤ i)
+
+-- of xs nothing but words of the first n nodes of w words was written, which left ys
+pub record NodesFrame (at : ℕ → ℕ) (w n : ℕ) (xs ys : List ℕ) : Type 0 where
+  pub same-length : length ys ≡ length xs
+  pub same-outside : (i : ℕ) → Outside at w n i → getD ys i 0 ≡ getD xs i 0
 
 -- ---- positions
 

@@ -48,6 +48,7 @@ pub struct Record {
 }
 
 // An entry of the catalogue of count files: the file's time and its number of rows.
+#[repr(C)]
 pub struct Entry {
     pub time: u64,
     pub rows: u32,
