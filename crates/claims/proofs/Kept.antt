@@ -1,8 +1,8 @@
--- Keep and drop of a state in order leave one in order. Assumes nothing.
+-- Keep and drop of a state in order leave one in order; so does letting only the files stay that pass a test. Assumes nothing.
 use Prim.Native.Nat.{ℕ, zero, suc, _+_, _-_, _*_, _≤_, _<_}
 use mathlib.Core.Path.{_≡_, refl, _∙_}
 use mathlib.Core.List.{List, [], _∷_, _++_, append-nil, map}
-use mathlib.Core.Bool.{false, not, _&&_}
+use mathlib.Core.Bool.{Bool, false, not, _&&_}
 use native.Mathlib.Omega.{arith}
 use native.Mathlib.Nat.{min-le-left, le-trans, le-div-iff-mul-le, mul-comm, mul-le-mul-right}
 use lib.ListN.{length, take, replicate, length-append, length-map, length-replicate}
@@ -11,16 +11,17 @@ use lib.Dec.{leb, ltb, eqb}
 use borrow.Author.Tests.{leb-true, ltb-true, eqb-false, not-true}
 use Rattle.codec.proofs.Numbers.{are-bytes-put}
 use Rattle.codec.proofs.PartLaws.{length-put}
+use Rattle.model.specs.declared.Entry.{Entry}
 use Rattle.model.specs.Answers.{question, firstNo}
 use Rattle.model.specs.Records.{headerBytes}
 use Rattle.model.specs.Memory.{State, state, logOf, sound, capacity, capacityOf}
-use Rattle.model.specs.Files.{File, filesOf, noFile, areasBytes, entryOf, withFiles, withCount, isKept, keepQuestions, fileIn, fileAt, keepOf, otherFiles, dropOf}
+use Rattle.model.specs.Files.{File, filesOf, noFile, areasBytes, entryOf, withFiles, withCount, isKept, keepQuestions, fileIn, fileAt, keepOf, staying, reduced, notOf, dropQuestions, dropOf}
 use Rattle.model.proofs.Compare.{and-left, and-right}
 use Rattle.model.specs.Facts.{FileIs, FilesAre, AuditedFacts, InOrder}
 use Rattle.model.proofs.AuditLaws.{audited-facts, audited-of-facts, capacity-entries, capacity-areas}
 use Rattle.claims.proofs.Regions.{asked, entries-put, entries-of-lendable}
 use Rattle.claims.proofs.FileLists.{FilesFit, files-fit, files-fit-append, no-files-fit, entries-of-files, bytes-of-files, length-areas, length-files-in, files-back}
-use Rattle.claims.proofs.FilesKept.{length-file-in, files-with, files-without, length-other-files, rest-back}
+use Rattle.claims.proofs.FilesKept.{length-file-in, files-with, files-staying, length-staying, rest-back}
 
 pub capacity-few : (R entries bytes : ℕ) → capacity R entries bytes ≤ 16
 unfolding capacity
@@ -189,18 +190,21 @@ keep-audited st t o = by (firstNo (keepQuestions st t)) refl
 
 -- ---- drop
 
+-- whatever the test
+pub reduced-audited : (stays : Entry → Bool) (st : State) → InOrder st → InOrder (reduced stays st)
+reduced-audited stays st o =
+    let f = audited-facts st (o .audited) in
+    let fs = filesOf st in
+    let gs = staying stays fs in
+    let less : length gs ≤ st .numbers .files = omega (arith, length-staying stays fs, length-files st f) in
+    files-in-order st o gs (st .numbers .files - length gs)
+    (files-staying (st .numbers .limit) (st .numbers .last) (logOf st) stays 0 0 fs (omega arith) (f .files-are)) (omega arith)
+    (omega (arith, f .limits .files-few))
+
 pub drop-audited : (st : State) (t : ℕ) → InOrder st → InOrder (dropOf st t .state)
 unfolding dropOf
-drop-audited st t o = by (firstNo (question 1 (sound st) ∷ question 16 (isKept t (filesOf st)) ∷ [])) refl
+drop-audited st t o = by (firstNo (dropQuestions st t)) refl
   where
-    by : (k : ℕ) → firstNo (question 1 (sound st) ∷ question 16 (isKept t (filesOf st)) ∷ []) ≡ k → InOrder (dropOf st t .state)
-    by zero q =
-        let f = audited-facts st (o .audited) in
-        let R = st .numbers .limit in
-        let fs = filesOf st in
-        let gs = otherFiles t fs in
-        let less : length gs ≤ st .numbers .files = omega (arith, length-other-files t fs, length-files st f) in
-        rw q
-        (files-in-order st o gs (st .numbers .files - length gs) (files-without R (st .numbers .last) (logOf st) t 0 0 fs (omega arith) (f .files-are))
-        (omega arith) (omega (arith, f .limits .files-few)))
+    by : (k : ℕ) → firstNo (dropQuestions st t) ≡ k → InOrder (dropOf st t .state)
+    by zero q = rw q (reduced-audited (notOf t) st o)
     by (suc k) q = rw q o

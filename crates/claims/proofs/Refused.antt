@@ -1,13 +1,12 @@
 -- A refused call that may change the store leaves it as it was: numbers and memory. Assumes nothing.
 use Prim.Native.Nat.{ℕ, zero, suc}
 use mathlib.Core.Path.{_≡_, refl}
-use mathlib.Core.List.{[], _∷_}
 use native.Mathlib.Omega.{arith}
-use Rattle.model.specs.Answers.{Outcome, answers, refuses, question, firstNo, unlessNo}
-use Rattle.model.specs.Memory.{State, sound}
+use Rattle.model.specs.Answers.{Outcome, answers, refuses, firstNo, unlessNo}
+use Rattle.model.specs.Memory.{State}
 use Rattle.model.specs.Starts.{after}
 use Rattle.model.specs.Changes.{unchanged, insertQuestions, presentQuestions, insertOf, deleteOf, updateOf}
-use Rattle.model.specs.Files.{filesOf, isKept, keepQuestions, keepOf, dropOf}
+use Rattle.model.specs.Files.{keepQuestions, keepOf, dropQuestions, dropOf}
 
 -- whatever is done where no question is answered no
 refused-leaves : (q : ℕ) (st done : State) (k : ℕ) → unlessNo q (after (answers tt) done) (unchanged st) .outcome ≡ refuses k
@@ -37,4 +36,4 @@ module _ (st : State) (k : ℕ) where
 
   pub drop-refused : (t : ℕ) → dropOf st t .outcome ≡ refuses k → dropOf st t .state ≡ st
   unfolding dropOf
-  drop-refused t e = refused-leaves (firstNo (question 1 (sound st) ∷ question 16 (isKept t (filesOf st)) ∷ [])) st _ k e
+  drop-refused t e = refused-leaves (firstNo (dropQuestions st t)) st _ k e
