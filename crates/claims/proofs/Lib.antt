@@ -17,3 +17,4 @@ pub mod NetChanges
 pub mod Outsets
 pub mod SameLogs
 pub mod ThirdDemands
+pub mod Made

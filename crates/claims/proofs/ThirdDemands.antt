@@ -11,13 +11,13 @@ use Rattle.claims.proofs.SameLogs.{one-table}
 pub demand-three : (st : State) → InOrder st → DemandThree st
 demand-three st o =
     record {
-      net-changes = λ a b out work h g l k. net-change-is st a b out work (o .audited) h g l k;
+      net-changes = λ a b out work h g l k. net-change-is st o a b out work h g l k;
       outsets = λ t out h l. outset-is-nearest st t out (o .audited) h l;
     }
 
 pub same-tables : SameTables
-same-tables s s′ cs cs′ sf sf′ cf cf′ e e′ one t out out′ h l l′ =
-    one-table (left s cs) (left s′ cs′) (stays-in-order s cs sf cf e) (stays-in-order s′ cs′ sf′ cf′ e′) one t out out′ h l l′
+same-tables s s′ cs cs′ sf sf′ cf cf′ e e′ one =
+    one-table (left s cs) (left s′ cs′) (stays-in-order s cs sf cf e) (stays-in-order s′ cs′ sf′ cf′ e′) one
 
 pub third-demand : ThirdDemand
 third-demand = record { after-every-list = λ s cs sf cf e. demand-three (left s cs) (stays-in-order s cs sf cf e); same-tables = same-tables }
