@@ -17,4 +17,5 @@ pub mod NetChanges
 pub mod Outsets
 pub mod SameLogs
 pub mod ThirdDemands
+pub mod FilesHeld
 pub mod Made

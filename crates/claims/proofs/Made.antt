@@ -42,10 +42,9 @@ carried-is ok (Carried.audit e) = (ap audited e, refl)
 pub ran-is : {st : State} {cs : List Call} {st' : State} → AllFit cs → InOrder st → Ran st cs st' → (st' ≡ run st cs) × InOrder st'
 unfolding run AllFit
 ran-is f o Ran.none = (refl, o)
-ran-is {st} {_} {st''} f o (Ran.next {st' = st'} {c = c} {cs = cs} k r) =
+ran-is f o (Ran.next {st = st} {st' = st'} {c = c} {cs = cs} k r) =
     let e : st' ≡ step st c = carried-is (o .audited) k .1 in
-    let o' : InOrder st' = subst (λ (x : State). InOrder x) (sym e) (step-in-order st c (f .0) o) in
-    let h = ran-is (f .1) o' r in
+    let h = ran-is (f .1) (subst (λ (x : State). InOrder x) (sym e) (step-in-order st c (f .0) o)) r in
     (h .0 ∙ ap (λ (x : State). run x cs) e, h .1)
 
 pub ran-from-is : {s : Start} {cs : List Call} {st : State} → StartFits s → AllFit cs → RanFrom s cs st → (st ≡ left s cs) × InOrder st
