@@ -1,7 +1,7 @@
 -- Lists of calls on 01's log: what each of the ten calls answers with 20 kept, and of which times a file is held along keeps and
 -- drops. Refusals told apart. Rows of the report's set. Assumes nothing.
 use Prim.Native.Nat.{ℕ, zero, suc, _≤_, _<_}
-use mathlib.Core.Path.{_≡_, refl}
+use mathlib.Core.Path.{_≡_, refl, ap}
 use mathlib.Core.List.{List, [], _∷_, _++_, map}
 use mathlib.Core.Bool.{Bool, true, false}
 use native.Mathlib.Omega.{arith}
@@ -10,7 +10,7 @@ use Rattle.model.specs.declared.Side.the-variants.{Earlier, Later}
 use Rattle.model.specs.declared.Place.the-variants.{Area}
 use Rattle.model.specs.Answers.{Outcome, answers, refuses, refusesAt, Question, question}
 use Rattle.model.specs.Records.{noRecord}
-use Rattle.model.specs.Rows.{row}
+use Rattle.model.specs.Rows.{Row, row}
 use Rattle.model.specs.Timeslice.{InReport}
 use Rattle.model.specs.Memory.{State, state}
 use Rattle.model.specs.Queries.{positionOf}
@@ -119,3 +119,20 @@ in-report = record { place = 3; in-log = omega arith; inserts = refl; in-time = 
     later (suc (suc (suc (suc (suc (suc zero)))))) h e a l = omega arith
     later (suc (suc (suc (suc (suc (suc (suc zero))))))) h e a l = omega arith
     later (suc (suc (suc (suc (suc (suc (suc (suc u)))))))) h e a l = omega arith
+
+-- 7:50 of time 10 is not: 7 was deleted at time 30
+not-in-report : InReport 45 (row 7 50) workedRecords → ⊥
+not-in-report g = by (g .place) (g .in-log) (g .inserts) (ap (λ (q : Row). q .count) (g .row-is)) (g .not-countered)
+  where
+    by : (p : ℕ) → p < 8 → getD workedRecords p noRecord .kind ≡ 2 → getD workedRecords p noRecord .count ≡ 50
+        → ((u : ℕ) → u < 8 → getD workedRecords u noRecord .article ≡ getD workedRecords p noRecord .article
+        → getD workedRecords p noRecord .time < getD workedRecords u noRecord .time → getD workedRecords u noRecord .time ≤ 45 → ⊥) → ⊥
+    by zero h k c n = n 2 (omega arith) refl (omega arith) (omega arith)
+    by (suc zero) h k c n = omega arith
+    by (suc (suc zero)) h k c n = omega arith
+    by (suc (suc (suc zero))) h k c n = omega arith
+    by (suc (suc (suc (suc zero)))) h k c n = omega arith
+    by (suc (suc (suc (suc (suc zero))))) h k c n = omega arith
+    by (suc (suc (suc (suc (suc (suc zero)))))) h k c n = omega arith
+    by (suc (suc (suc (suc (suc (suc (suc zero))))))) h k c n = omega arith
+    by (suc (suc (suc (suc (suc (suc (suc (suc p)))))))) h k c n = omega arith
