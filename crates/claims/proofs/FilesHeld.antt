@@ -78,6 +78,21 @@ kept-without t u (x ∷ xs) = by (kept-without t u xs) (eqb (x .entry .time) u) 
 
 -- ---- one call
 
+-- a refused keep of it or of another time, and a refused drop, change nothing
+refused-keep : (b c : Bool) → b ≡ (b || (c && false))
+refused-keep true c = refl
+refused-keep false true = refl
+refused-keep false false = refl
+
+refused-drop : (b c : Bool) → b ≡ (b && not (c && false))
+refused-drop true true = refl
+refused-drop true false = refl
+refused-drop false c = refl
+
+accepted : (c : Bool) → c ≡ (c && true)
+accepted true = refl
+accepted false = refl
+
 module _ (st : State) where
   -- records appended touch no file
   pub appended-files : (t : ℕ) (new : List Rec) → filesOf (appended st t new) ≡ filesOf st
@@ -109,20 +124,6 @@ module _ (st : State) where
       by (suc k) q = rw q
 
   module _ (o : InOrder st) (t : ℕ) where
-    or-none : (b c : Bool) → b ≡ (b || (c && false))
-    or-none true c = refl
-    or-none false true = refl
-    or-none false false = refl
-
-    and-all : (b c : Bool) → b ≡ (b && not (c && false))
-    and-all true true = refl
-    and-all true false = refl
-    and-all false c = refl
-
-    and-true : (c : Bool) → c ≡ (c && true)
-    and-true true = refl
-    and-true false = refl
-
     pub keep-held : (u : ℕ) → isKept t (filesOf (keepOf st u .state)) ≡ (isKept t (filesOf st) || (eqb u t && not (isRefused (keepOf st u .outcome))))
     unfolding keepOf isRefused
     keep-held u = by (firstNo (keepQuestions st u)) refl
@@ -132,8 +133,8 @@ module _ (st : State) where
         by zero q =
             rw q
             (ap (isKept t) (kept-files st o u (keep-asked st u q)) ∙ kept-with t (fileAt st u) (filesOf st)
-            ∙ ap (λ (b : Bool). isKept t (filesOf st) || b) (and-true (eqb u t)))
-        by (suc k) q = rw q (or-none (isKept t (filesOf st)) (eqb u t))
+            ∙ ap (λ (b : Bool). isKept t (filesOf st) || b) (accepted (eqb u t)))
+        by (suc k) q = rw q (refused-keep (isKept t (filesOf st)) (eqb u t))
 
     pub drop-held : (u : ℕ) → isKept t (filesOf (dropOf st u .state)) ≡ (isKept t (filesOf st) && not (eqb u t && not (isRefused (dropOf st u .outcome))))
     unfolding dropOf isRefused
@@ -144,8 +145,8 @@ module _ (st : State) where
         by zero q =
             rw q
             (ap (isKept t) (reduced-files (notOf u) st o) ∙ kept-without t u (filesOf st)
-            ∙ ap (λ (b : Bool). isKept t (filesOf st) && not b) (and-true (eqb u t)))
-        by (suc k) q = rw q (and-all (isKept t (filesOf st)) (eqb u t))
+            ∙ ap (λ (b : Bool). isKept t (filesOf st) && not b) (accepted (eqb u t)))
+        by (suc k) q = rw q (refused-drop (isKept t (filesOf st)) (eqb u t))
 
     pub step-held : (c : Call) → isKept t (filesOf (step st c)) ≡ heldNext t (isKept t (filesOf st)) st c
     unfolding step heldNext

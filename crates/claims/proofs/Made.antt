@@ -1,17 +1,16 @@
 -- Calls that are made (specs/Chains of model): each that keeps the promise of its contract answers and leaves what its
 -- definition says, so a list of them leaves what `run` says, and demands 2 and 3 hold of it. Assumes nothing.
-use Prim.Native.Nat.{ℕ}
 use mathlib.Core.Path.{_≡_, refl, sym, ap, _∙_, subst}
-use mathlib.Core.List.{List, [], _∷_}
-use Rattle.model.specs.Answers.{Outcome, answers, TableSaid}
+use mathlib.Core.List.{List}
+use Rattle.model.specs.Answers.{Outcome, TableSaid}
 use Rattle.model.specs.Memory.{State}
 use Rattle.model.specs.Starts.{After, after}
-use Rattle.model.specs.Queries.{Written, Netted, tableOf, netOf}
+use Rattle.model.specs.Queries.{Written, Netted, tableOf}
 use Rattle.model.specs.Audit.{Audited}
 use Rattle.model.specs.Facts.{InOrder}
 use Rattle.model.specs.Calls.{Start, StartFits, begun, Call, AllFit, Said, changed, positioned, written, viewed, netted, audited, answerOf, step, run, Accepted}
 use Rattle.model.specs.Chains.{Carried, Ran, RanFrom}
-use Rattle.model.specs.Demands.{left, TableIsTimeslice, NetChangeIs, OutsetIsNearest, AnswersOf, StoreKeeps, CodeKeeps, CodeSameTables}
+use Rattle.model.specs.Demands.{left, TableIsTimeslice, NetChangeIs, OutsetIsNearest, AnswersOf, CodeKeeps, CodeSameTables}
 use Rattle.claims.proofs.Opened.{start-audited}
 use Rattle.claims.proofs.Lists.{step-in-order}
 use Rattle.claims.proofs.SecondDemands.{demand-two}

@@ -1,8 +1,7 @@
 -- Two states in order with one log have the same numbers of that log, the same records and so the same tables, whichever count
 -- files they hold (demand 3). Assumes nothing.
-use Prim.Native.Nat.{ℕ, _+_, _*_, _≤_}
+use Prim.Native.Nat.{_+_, _*_, _≤_}
 use mathlib.Core.Path.{_≡_, sym, ap, _∙_}
-use mathlib.Core.List.{List}
 use native.Mathlib.Omega.{arith}
 use lib.ListN.{length, drop}
 use Rattle.codec.proofs.PartLaws.{part-of-take}

@@ -1,6 +1,6 @@
 -- The report's set, in which later means of a later time, and 01's, in which it means behind in the log: on a legal
 -- log they are one, and its rows are the timeslice's. Assumes nothing.
-use Prim.Native.Nat.{ℕ, zero, suc, _+_, _≤_, _<_}
+use Prim.Native.Nat.{ℕ, zero, suc, _≤_, _<_}
 use mathlib.Core.Path.{_≡_, refl}
 use mathlib.Core.Logic.{_⊎_, inl, inr, _↔_}
 use mathlib.Core.List.{List, [], _∷_}

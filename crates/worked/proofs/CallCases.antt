@@ -3,12 +3,12 @@
 use Prim.Native.Nat.{ℕ, zero, suc, _≤_, _<_}
 use mathlib.Core.Path.{_≡_, refl, ap}
 use mathlib.Core.List.{List, [], _∷_, _++_, map}
-use mathlib.Core.Bool.{Bool, true, false}
+use mathlib.Core.Bool.{true, false}
 use native.Mathlib.Omega.{arith}
 use lib.ListN.{getD, replicate}
 use Rattle.model.specs.declared.Side.the-variants.{Earlier, Later}
 use Rattle.model.specs.declared.Place.the-variants.{Area}
-use Rattle.model.specs.Answers.{Outcome, answers, refuses, refusesAt, Question, question}
+use Rattle.model.specs.Answers.{Outcome, answers, refuses, refusesAt, question}
 use Rattle.model.specs.Records.{noRecord}
 use Rattle.model.specs.Rows.{Row, row}
 use Rattle.model.specs.Timeslice.{InReport}
@@ -16,7 +16,7 @@ use Rattle.model.specs.Memory.{State, state}
 use Rattle.model.specs.Queries.{positionOf}
 use Rattle.model.specs.Files.{filesOf, isKept, dropOf}
 use Rattle.model.specs.Promises.{isRefused, refusedAmong, Asked}
-use Rattle.model.specs.Calls.{Call, run, Said, changed, positioned, written, viewed, netted, audited, answerOf}
+use Rattle.model.specs.Calls.{Call, run, changed, positioned, written, viewed, netted, audited, answerOf}
 use Rattle.model.specs.Demands.{heldNext, heldAfter}
 use Rattle.worked.proofs.Computing.{computing}
 use Rattle.worked.proofs.WorkedLog.{workedRecords, worked, table20, table45, change20to45, told, changes, seen}
