@@ -5,6 +5,7 @@ pub mod SliceLaws
 pub mod UpToLaws
 pub mod SmallLaws
 pub mod ReportLaws
+pub mod ReportedLaws
 pub mod LegalLaws
 pub mod WrongLaws
 pub mod TimeLaws
