@@ -59,7 +59,9 @@ pub struct Plan {
     damage: u64,
     /// in a hundred calls, how many append
     appends: u64,
-    /// in a hundred calls on count files, how many keep one
+    /// in a hundred others, how many keep or drop a count file
+    files: u64,
+    /// in a hundred of those, how many keep one
     keeps: u64,
     /// the most by which a time rises
     step: u64,
@@ -69,12 +71,13 @@ pub struct Plan {
 impl Plan {
     pub fn new(random: &mut Random) -> Plan {
         Plan {
-            articles: random.pick(&[2, 5, 9, 40]),
+            articles: random.pick(&[2, 9, 40, 1_000]),
             damage: random.pick(&[0, 0, 0, 8]),
             appends: random.pick(&[30, 50, 75]),
+            files: random.pick(&[20, 35, 60]),
             keeps: random.pick(&[60, 80, 97]),
             step: random.pick(&[1, 3, 1 << 40, 1 << 59]),
-            calls: if random.percent(97) { random.from(1, 90) } else { random.from(90, 600) },
+            calls: if random.percent(90) { random.from(1, 90) } else { random.from(90, 600) },
         }
     }
 }

@@ -23,19 +23,21 @@ pub fn call(random: &mut Random, plan: &Plan, store: &Store) -> Call {
         let next = if random.percent(94) { last.saturating_add(random.from(1, plan.step)) } else { t };
         return append(random, plan, store, next);
     }
+    if random.percent(plan.files) {
+        let keeps = random.percent(plan.keeps);
+        return if keeps { Call::Keep(t) } else { Call::Drop(kept_time(random, store).unwrap_or(t)) };
+    }
     let length = table_length(row_limit.min(1024));
     match random.from(0, 99) {
-        0..=9 => Call::Position(t),
-        10..=24 => Call::Table(t, near(random, length)),
-        25..=36 => Call::View(t),
-        37..=51 => {
+        0..=14 => Call::Position(t),
+        15..=39 => Call::Table(t, near(random, length)),
+        40..=59 => Call::View(t),
+        60..=82 => {
             let (output, workspace) = (near(random, 3 * length), near(random, 2 * length));
             Call::NetChange(t, time(random, store), output, workspace)
         }
-        52..=85 if random.percent(plan.keeps) => Call::Keep(t),
-        52..=85 => Call::Drop(kept_time(random, store).unwrap_or(t)),
-        86..=94 => Call::Audit,
-        95..=97 => Call::Open,
+        83..=93 => Call::Audit,
+        94..=97 => Call::Open,
         _ => {
             let (order, page_size, row_limit) = settings(random);
             Call::Fresh(order, page_size, row_limit)
