@@ -7,6 +7,7 @@ use oracle::outset::{Place, Side};
 use oracle::random::Random;
 use oracle::store::{Refusal, Store};
 use std::collections::{BTreeMap, BTreeSet};
+use std::sync::OnceLock;
 
 /// What lists met.
 #[derive(Default)]
@@ -111,12 +112,16 @@ fn list(random: &mut Random, met: &mut Met) {
     }
 }
 
-fn lists() -> Met {
-    let mut met = Met::default();
-    for number in 0..3000 {
-        list(&mut Random::for_case(2055, number), &mut met);
-    }
-    met
+/// What 3,000 lists met.
+fn lists() -> &'static Met {
+    static MET: OnceLock<Met> = OnceLock::new();
+    MET.get_or_init(|| {
+        let mut met = Met::default();
+        for number in 0..3000 {
+            list(&mut Random::for_case(2055, number), &mut met);
+        }
+        met
+    })
 }
 
 /// All of a call's questions, and its acceptance.
