@@ -1,0 +1,22 @@
+use borrow.Author.Needs.{needs}
+use Rattle.netting.proofs.put_recount.Statement.{statement}
+use Rattle.netting.proofs.put_recount.Tie as tie
+
+put-row-requires : tie.Need-put-row-requires
+put-row-requires c κs = search needs
+
+add-put-row : tie.Need-add-put-row
+add-put-row c = search needs
+
+put-row-requires-2 : tie.Need-put-row-requires-2
+put-row-requires-2 c κs = search needs
+
+same-length : tie.Need-same-length
+same-length c = search needs
+
+returns : tie.Need-returns
+returns c = ?
+
+pub put-recount-spec : {M : Type 1} → statement M
+put-recount-spec =
+    tie.close (tie.spec put-row-requires add-put-row put-row-requires-2 same-length returns)
