@@ -1,3 +1,4 @@
+-- `netting::put_row` meets its contract: the entry has the article and the count that are read. Assumes nothing.
 use borrow.Author.Needs.{needs}
 use Rattle.netting.proofs.put_row.Statement.{statement}
 use Rattle.netting.proofs.put_row.Tie as tie
@@ -24,7 +25,10 @@ same-length : tie.Need-same-length
 same-length c = search needs
 
 returns : tie.Need-returns
-returns c = ?
+returns c =
+    let p = c .before .before in
+    let g2 = p .before .before in
+    rw (g2 .before .get32 .ensures, g2 .get322 .ensures) at (p .put-change .ensures)
 
 pub put-row-spec : {M : Type 1} → statement M
 put-row-spec =
