@@ -43,19 +43,56 @@ fn put_row(out: &mut [u8], k: usize, kind: u16, rows: &[u8], i: usize)
     put_change(out, k, kind, article, count);
 }
 
-// Entries k and k + 1 of out, for an article that both tables have: the deletion comes first.
-fn put_recount(out: &mut [u8], k: usize, was: &[u8], i: usize, is: &[u8], j: usize)
-    requires { ⌜ 12 * k + 24 ≤ length (now out) ⌝ }
-    requires { ⌜ 8 * i + 8 ≤ length (now was) ⌝ }
-    requires { ⌜ 8 * j + 8 ≤ length (now is) ⌝ }
-    ensures { λ _. ⌜ now (out .exit) ≡ put (now (out .entry)) (12 * k)
-        (changeBytes (changeAt 3 (now (was .entry)) i) ++ changeBytes (changeAt 2 (now (is .entry)) j)) ⌝ }
+// ---- the merge, one step
+
+// Row i of a goes.
+fn gone(a: &[u8], i: usize, j: usize, out: &mut [u8], k: usize) -> Way
+    requires { ⌜ 8 * i + 8 ≤ length (now a) ⌝ }
+    requires { ⌜ 12 * k + 12 ≤ length (now out) ⌝ }
+    ensures way { λ w. ⌜ w ≡ record { left = i + 1; right = j; entries = k + 1 } ⌝ }
+    ensures entry { λ _. ⌜ now (out .exit) ≡ put (now (out .entry)) (12 * k) (changeBytes (changeAt 3 (now (a .entry)) i)) ⌝ }
 {
-    put_row(out, k, 3, was, i);
-    put_row(out, k + 1, 2, is, j);
+    put_row(out, k, 3, a, i);
+    Way {
+        left: i + 1,
+        right: j,
+        entries: k + 1,
+    }
 }
 
-// ---- the merge
+// Row j of b comes.
+fn come(b: &[u8], i: usize, j: usize, out: &mut [u8], k: usize) -> Way
+    requires { ⌜ 8 * j + 8 ≤ length (now b) ⌝ }
+    requires { ⌜ 12 * k + 12 ≤ length (now out) ⌝ }
+    ensures way { λ w. ⌜ w ≡ record { left = i; right = j + 1; entries = k + 1 } ⌝ }
+    ensures entry { λ _. ⌜ now (out .exit) ≡ put (now (out .entry)) (12 * k) (changeBytes (changeAt 2 (now (b .entry)) j)) ⌝ }
+{
+    put_row(out, k, 2, b, j);
+    Way {
+        left: i,
+        right: j + 1,
+        entries: k + 1,
+    }
+}
+
+// Row i of a and row j of b are of one article and have two counts: the deletion comes first.
+fn recounted(a: &[u8], i: usize, b: &[u8], j: usize, out: &mut [u8], k: usize) -> Way
+    requires { ⌜ 8 * i + 8 ≤ length (now a) ⌝ }
+    requires { ⌜ 8 * j + 8 ≤ length (now b) ⌝ }
+    requires { ⌜ 12 * k + 24 ≤ length (now out) ⌝ }
+    ensures way { λ w. ⌜ w ≡ record { left = i + 1; right = j + 1; entries = k + 2 } ⌝ }
+    ensures entries { λ _. ⌜ now (out .exit) ≡ put (now (out .entry)) (12 * k)
+        (changeBytes (changeAt 3 (now (a .entry)) i) ++ changeBytes (changeAt 2 (now (b .entry)) j)) ⌝ }
+{
+    let next = k + 1;
+    put_row(out, k, 3, a, i);
+    put_row(out, next, 2, b, j);
+    Way {
+        left: i + 1,
+        right: j + 1,
+        entries: k + 2,
+    }
+}
 
 // The first rows not yet passed, row i of m and row j of n: that of the smaller article is passed,
 // or both where they have one article.
@@ -65,29 +102,30 @@ fn pass(a: &[u8], i: usize, m: usize, b: &[u8], j: usize, n: usize, out: &mut [u
     ensures passes { λ w. ⌜ Passes (now (a .entry)) (now (b .entry)) m n i j k (now (out .entry)) (w .left) (w .right) (w .entries) (now (out .exit)) ⌝ }
 {
     if j == n {
-        put_row(out, k, 3, a, i);
-        return Way { left: i + 1, right: j, entries: k + 1 };
+        return gone(a, i, j, out, k);
     }
     if i == m {
-        put_row(out, k, 2, b, j);
-        return Way { left: i, right: j + 1, entries: k + 1 };
+        return come(b, i, j, out, k);
     }
     let x = codec::get32(a, 8 * i);
     let y = codec::get32(b, 8 * j);
     if x < y {
-        put_row(out, k, 3, a, i);
-        return Way { left: i + 1, right: j, entries: k + 1 };
+        return gone(a, i, j, out, k);
     }
     if y < x {
-        put_row(out, k, 2, b, j);
-        return Way { left: i, right: j + 1, entries: k + 1 };
+        return come(b, i, j, out, k);
     }
     if codec::get32(a, 8 * i + 4) == codec::get32(b, 8 * j + 4) {
-        return Way { left: i + 1, right: j + 1, entries: k };
+        return Way {
+            left: i + 1,
+            right: j + 1,
+            entries: k,
+        };
     }
-    put_recount(out, k, a, i, b, j);
-    Way { left: i + 1, right: j + 1, entries: k + 2 }
+    recounted(a, i, b, j, out, k)
 }
+
+// ---- the merge
 
 // The net change from the rows a to the rows b into out, zeros behind its entries. Answers the
 // number of entries.

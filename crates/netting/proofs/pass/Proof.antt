@@ -9,14 +9,8 @@ use borrow.Author.Needs.{needs}
 use Rattle.netting.proofs.pass.Statement.{statement}
 use Rattle.netting.proofs.pass.Tie as tie
 
-put-row-requires : tie.Need-put-row-requires
-put-row-requires c κs = search needs
-
-add-t15 : tie.Need-add-t15
-add-t15 c = search needs
-
-add-t16 : tie.Need-add-t16
-add-t16 c = search needs
+gone-requires : tie.Need-gone-requires
+gone-requires c κs = search needs
 
 same-length : tie.Need-same-length
 same-length c = search needs
@@ -27,16 +21,10 @@ returns c =
     let t = p .before .before in
     let s = t .before .before .before .before in
     let x = s .args in
-    ((omega arith, (omega arith, (omega arith, omega arith))), rw (p .put-row .ensures) (passes-gone (x .a .now) (x .b .now) (x .m) (x .n) (x .i) (x .j) (x .k) (x .out .now) (omega arith) (inl (omega arith)) (omega arith)))
+    rw (p .gone .ensures .0, p .gone .ensures .1) ((omega arith, (omega arith, (omega arith, omega arith))), passes-gone (x .a .now) (x .b .now) (x .m) (x .n) (x .i) (x .j) (x .k) (x .out .now) (omega arith) (inl (omega arith)) (omega arith))
 
-put-row-requires-2 : tie.Need-put-row-requires-2
-put-row-requires-2 c κs = search needs
-
-add-t20 : tie.Need-add-t20
-add-t20 c = search needs
-
-add-t21 : tie.Need-add-t21
-add-t21 c = search needs
+come-requires : tie.Need-come-requires
+come-requires c κs = search needs
 
 same-length-2 : tie.Need-same-length-2
 same-length-2 c = search needs
@@ -47,7 +35,7 @@ returns-2 c =
     let t = p .before .before in
     let s = t .before .before .before .before .before in
     let x = s .args in
-    ((omega arith, (omega arith, (omega arith, omega arith))), rw (p .put-row2 .ensures) (passes-come (x .a .now) (x .b .now) (x .m) (x .n) (x .i) (x .j) (x .k) (x .out .now) (omega arith) (inl (omega arith)) (omega arith)))
+    rw (p .come .ensures .0, p .come .ensures .1) ((omega arith, (omega arith, (omega arith, omega arith))), passes-come (x .a .now) (x .b .now) (x .m) (x .n) (x .i) (x .j) (x .k) (x .out .now) (omega arith) (inl (omega arith)) (omega arith))
 
 mul-get32 : tie.Need-mul-get32
 mul-get32 c = search needs
@@ -61,14 +49,8 @@ mul-get32-2 c = search needs
 get32-requires-2 : tie.Need-get32-requires-2
 get32-requires-2 c κs = search needs
 
-put-row-requires-3 : tie.Need-put-row-requires-3
-put-row-requires-3 c κs = search needs
-
-add-t26 : tie.Need-add-t26
-add-t26 c = search needs
-
-add-t27 : tie.Need-add-t27
-add-t27 c = search needs
+gone-requires-2 : tie.Need-gone-requires-2
+gone-requires-2 c κs = search needs
 
 same-length-3 : tie.Need-same-length-3
 same-length-3 c = search needs
@@ -87,16 +69,10 @@ returns-3 c =
     let r : x .j < x .n = omega (arith, s .pre .right-within, e1 .if1 .left) in
     let few : x .k ≤ x .i + x .j = s .pre .few in
     let above : articleAt (x .a .now) (x .i) < articleAt (x .b .now) (x .j) = rw (g1 .get32 .ensures, g2 .get322 .ensures) at (t .if3 .taken) in
-    ((omega (arith, l), (omega (arith, r), (omega (arith, few), omega (arith, few)))), rw (p .put-row3 .ensures) (passes-gone (x .a .now) (x .b .now) (x .m) (x .n) (x .i) (x .j) (x .k) (x .out .now) l (inr (r, above)) (omega arith)))
+    rw (p .gone2 .ensures .0, p .gone2 .ensures .1) ((omega (arith, l), (omega (arith, r), (omega (arith, few), omega (arith, few)))), passes-gone (x .a .now) (x .b .now) (x .m) (x .n) (x .i) (x .j) (x .k) (x .out .now) l (inr (r, above)) (omega arith))
 
-put-row-requires-4 : tie.Need-put-row-requires-4
-put-row-requires-4 c κs = search needs
-
-add-t31 : tie.Need-add-t31
-add-t31 c = search needs
-
-add-t32 : tie.Need-add-t32
-add-t32 c = search needs
+come-requires-2 : tie.Need-come-requires-2
+come-requires-2 c κs = search needs
 
 same-length-4 : tie.Need-same-length-4
 same-length-4 c = search needs
@@ -115,7 +91,7 @@ returns-4 c =
     let r : x .j < x .n = omega (arith, s .pre .right-within, e1 .if1 .left) in
     let few : x .k ≤ x .i + x .j = s .pre .few in
     let above : articleAt (x .b .now) (x .j) < articleAt (x .a .now) (x .i) = rw (g1 .get32 .ensures, g2 .get322 .ensures) at (t .if4 .taken) in
-    ((omega (arith, l), (omega (arith, r), (omega (arith, few), omega (arith, few)))), rw (p .put-row4 .ensures) (passes-come (x .a .now) (x .b .now) (x .m) (x .n) (x .i) (x .j) (x .k) (x .out .now) r (inr (l, above)) (omega arith)))
+    rw (p .come2 .ensures .0, p .come2 .ensures .1) ((omega (arith, l), (omega (arith, r), (omega (arith, few), omega (arith, few)))), passes-come (x .a .now) (x .b .now) (x .m) (x .n) (x .i) (x .j) (x .k) (x .out .now) r (inr (l, above)) (omega arith))
 
 mul-get32-3 : tie.Need-mul-get32-3
 mul-get32-3 c = search needs
@@ -135,11 +111,11 @@ add-get32-2 c = search needs
 get32-requires-4 : tie.Need-get32-requires-4
 get32-requires-4 c κs = search needs
 
-add-t38 : tie.Need-add-t38
-add-t38 c = search needs
+add-t26 : tie.Need-add-t26
+add-t26 c = search needs
 
-add-t39 : tie.Need-add-t39
-add-t39 c = search needs
+add-t27 : tie.Need-add-t27
+add-t27 c = search needs
 
 returns-5 : tie.Need-returns-5
 returns-5 c =
@@ -161,17 +137,8 @@ returns-5 c =
     let counts : countAt (x .a .now) (x .i) ≡ countAt (x .b .now) (x .j) = omega (arith, g3 .get323 .ensures, g4 .get324 .ensures, t .if5 .taken) in
     ((omega (arith, l), (omega (arith, r), (omega (arith, few), omega (arith, few)))), passes-kept (x .a .now) (x .b .now) (x .m) (x .n) (x .i) (x .j) (x .k) (x .out .now) l r articles counts)
 
-put-recount-requires : tie.Need-put-recount-requires
-put-recount-requires c κs = search needs
-
-add-t22 : tie.Need-add-t22
-add-t22 c = search needs
-
-add-t34 : tie.Need-add-t34
-add-t34 c = search needs
-
-add-t36 : tie.Need-add-t36
-add-t36 c = search needs
+recounted-requires : tie.Need-recounted-requires
+recounted-requires c κs = search needs
 
 same-length-5 : tie.Need-same-length-5
 same-length-5 c = search needs
@@ -195,34 +162,26 @@ returns-6 c =
     let few : x .k ≤ x .i + x .j = s .pre .few in
     let articles : articleAt (x .a .now) (x .i) ≡ articleAt (x .b .now) (x .j) = omega (arith, g1 .get32 .ensures, g2 .get322 .ensures, e3 .if3 .left, e4 .if4 .left) in
     let counts : countAt (x .a .now) (x .i) ≡ countAt (x .b .now) (x .j) → ⊥ = λ e. t .if5 .left (g3 .get323 .ensures ∙ e ∙ sym (g4 .get324 .ensures)) in
-    ((omega (arith, l), (omega (arith, r), (omega (arith, few), omega (arith, few)))), rw (p .put-recount .ensures) (passes-recounted (x .a .now) (x .b .now) (x .m) (x .n) (x .i) (x .j) (x .k) (x .out .now) l r articles counts (omega arith)))
+    rw (p .recounted .ensures .0, p .recounted .ensures .1) ((omega (arith, l), (omega (arith, r), (omega (arith, few), omega (arith, few)))), passes-recounted (x .a .now) (x .b .now) (x .m) (x .n) (x .i) (x .j) (x .k) (x .out .now) l r articles counts (omega arith))
 
 pub pass-spec : {M : Type 1} → statement M
 pass-spec =
     tie.close
     (tie.spec
-    put-row-requires
-    add-t15
-    add-t16
+    gone-requires
     same-length
     returns
-    put-row-requires-2
-    add-t20
-    add-t21
+    come-requires
     same-length-2
     returns-2
     mul-get32
     get32-requires
     mul-get32-2
     get32-requires-2
-    put-row-requires-3
-    add-t26
-    add-t27
+    gone-requires-2
     same-length-3
     returns-3
-    put-row-requires-4
-    add-t31
-    add-t32
+    come-requires-2
     same-length-4
     returns-4
     mul-get32-3
@@ -231,12 +190,9 @@ pass-spec =
     mul-get32-4
     add-get32-2
     get32-requires-4
-    add-t38
-    add-t39
+    add-t26
+    add-t27
     returns-5
-    put-recount-requires
-    add-t22
-    add-t34
-    add-t36
+    recounted-requires
     same-length-5
     returns-6)
