@@ -1,3 +1,7 @@
+-- `comparing::merge_both` meets its contract: the parts lent are the first rows of each table. Assumes nothing.
+use Prim.Native.Nat.{_+_, _*_, _-_}
+use mathlib.Core.Path.{_≡_}
+use native.Mathlib.Omega.{arith}
 use borrow.Author.Needs.{needs}
 use Rattle.comparing.proofs.merge_both.Statement.{statement}
 use Rattle.comparing.proofs.merge_both.Tie as tie
@@ -45,7 +49,12 @@ same-length : tie.Need-same-length
 same-length c = search needs
 
 returns : tie.Need-returns
-returns c = ?
+returns c =
+    let m = c .before .before in
+    let x = m .before .before .before .before .before .before .before .before .args in
+    let first : 8 * x .n .first - 0 ≡ 8 * x .n .first = omega arith in
+    let second : 8 * x .limit + 8 * x .n .second - 8 * x .limit ≡ 8 * x .n .second = omega arith in
+    (m .merge .ensures .0, rw (first, second) at (m .merge .ensures .1))
 
 pub merge-both-spec : {M : Type 1} → statement M
 merge-both-spec =

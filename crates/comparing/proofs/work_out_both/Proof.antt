@@ -1,3 +1,11 @@
+-- `comparing::work_out_both` meets its contract: each half of the workspace is one table. Assumes nothing.
+use Prim.Native.Nat.{_*_, _-_}
+use mathlib.Core.Path.{_≡_, _∙_}
+use native.Mathlib.Omega.{arith}
+use native.Mathlib.Nat.{sub-zero}
+use lib.ListN.{length, take}
+use lib.Seq.{length-take-le}
+use Rattle.comparing.proofs.Workspace.{second-half, both-worked-out}
 use borrow.Author.Needs.{needs}
 use Rattle.comparing.proofs.work_out_both.Statement.{statement}
 use Rattle.comparing.proofs.work_out_both.Tie as tie
@@ -39,7 +47,21 @@ same-length : tie.Need-same-length
 same-length c = search needs
 
 returns : tie.Need-returns
-returns c = ?
+returns c =
+    let w2 = c .before .before in
+    let w1 = w2 .before .before .before .before in
+    let s = w1 .before .before .before .before .before .before .before .before in
+    let x = s .args in
+    let size = 8 * x .s .limit in
+    let l : length (x .work .now) ≡ 16 * x .s .limit = s .pre .work-is in
+    let first : length (take (size - 0) (x .work .now)) ≡ size = length-take-le (size - 0) (x .work .now) (omega arith) ∙ sub-zero size in
+    let ly = w1 .work-out .kept .1 .1 .1 .1 .1 .1 .1 .0 ∙ first in
+    let second = second-half size (x .work .now) (w1 .work-out .last .1 .1 .1 .1 .1 .1 .1 .0) (omega arith) ly in
+    let lz = w2 .work-out2 .kept .1 .1 .1 .1 .1 .1 .1 .0 ∙ second in (
+      (omega (arith, w1 .work-out .ensures .0, first), omega (arith, w2 .work-out2 .ensures .0, second)),
+      both-worked-out (x .s) (x .log .now) (x .index .now) (x .current .now) (x .areas .now) (x .c) (x .a) (x .b) (w1 .work-out .result) (w2 .work-out2 .result) (x .work .now)
+          l ly lz (w1 .work-out .ensures .1) (w2 .work-out2 .ensures .1),
+    )
 
 pub work-out-both-spec : {M : Type 1} → statement M
 work-out-both-spec =
