@@ -40,7 +40,16 @@ fn work_out_both<'a>(
 {
     let size = 8 * (s.limit as usize);
     let first = tables::work_out(s, log, index, current, areas, c, a, &mut work[0..size]);
-    let second = tables::work_out(s, log, index, current, areas, c, b, &mut work[size..2 * size]);
+    let second = tables::work_out(
+        s,
+        log,
+        index,
+        current,
+        areas,
+        c,
+        b,
+        &mut work[size..2 * size],
+    );
     Both {
         first: first.rows,
         second: second.rows,
