@@ -16,7 +16,7 @@ use Rattle.model.proofs.RowLaws.{row-eq, asc-weak}
 use Rattle.rows.specs.Table.{articleAt, countAt, rowAt}
 use Rattle.rows.proofs.TableBytes.{length-rows-bytes, article-table, count-at-table}
 use Rattle.netting.specs.Form.{Merged}
-use Rattle.netting.specs.Merge.{changeAt, RowsAre, Passed, Passes, Merges}
+use Rattle.netting.specs.Merge.{changeAt, RowsAre, Head, Passed, Passes, Merges}
 use Rattle.netting.proofs.Merging.{merged, merged-net}
 use Rattle.netting.proofs.ChangeBytes.{length-changes-bytes}
 
@@ -57,6 +57,20 @@ module _ (T : List Row) (xs : List ℕ) (rows : RowsAre T xs) (i : ℕ) (within 
 -- the rows of a table not yet passed, of n rows in all, are none or begin with an article above x
 abbrev pub Above : ℕ → List ℕ → ℕ → ℕ → Type 0
 Above x xs n j = (j ≡ n) ⊎ ((j < n) × (x < articleAt xs j))
+
+-- the smaller of two heads stands, and the other table has nothing up to it
+pub head-smaller : {a b : List ℕ} {i m j n x y : ℕ} → Head a i m x → Head b j n y → x < y → (i < m) × Above (articleAt a i) b n j
+head-smaller (Head.ended h e) (Head.ended g f) l = absurd (omega arith)
+head-smaller (Head.ended h e) (Head.stands g k f) l = absurd (omega arith)
+head-smaller (Head.stands h k e) (Head.ended g f) l = (h, inl g)
+head-smaller (Head.stands h k e) (Head.stands g o f) l = (h, inr (g, omega arith))
+
+-- equal heads both stand, unless nothing is left
+pub head-same : {a b : List ℕ} {i m j n x y : ℕ} → Head a i m x → Head b j n y → x ≡ y → i + j < m + n → (i < m) × ((j < n) × (articleAt a i ≡ articleAt b j))
+head-same (Head.ended h e) (Head.ended g f) q l = absurd (omega arith)
+head-same (Head.ended h e) (Head.stands g k f) q l = absurd (omega arith)
+head-same (Head.stands h k e) (Head.ended g f) q l = absurd (omega arith)
+head-same (Head.stands h k e) (Head.stands g o f) q l = (h, (g, sym e ∙ q ∙ f))
 
 asc-above : (T : List Row) (xs : List ℕ) → RowsAre T xs → (x n j : ℕ) → length T ≡ n → Above x xs n j → Ascending (suc x) (drop j T)
 unfolding Ascending

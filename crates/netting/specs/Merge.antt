@@ -1,6 +1,6 @@
 -- What a merge of the rows of two tables leaves, on its way and at its end (01, "Count files"). Of bytes that are no ascending
 -- rows nothing is said but where the merge stays. Assumes nothing.
-use Prim.Native.Nat.{ℕ, _+_, _*_, _-_, _≤_, _<_}
+use Prim.Native.Nat.{ℕ, _+_, _*_, _-_, _^_, _≤_, _<_}
 use mathlib.Core.Path.{_≡_}
 use mathlib.Core.List.{List, _++_}
 use lib.ListN.{length, take, drop}
@@ -32,6 +32,11 @@ pub record Underway (a i m b j n out k : ℕ) : Type 0 where
   pub right-within : j ≤ n
   pub more : i + j < m + n
   pub few : k ≤ i + j
+
+-- x is the article of row i of m, or above every article where there are no more rows
+pub data Head (xs : List ℕ) (i m x : ℕ) : Type 0 where
+  ended : i ≡ m → x ≡ 2 ^ 32 → Head xs i m x
+  stands : i < m → x < 2 ^ 32 → x ≡ articleAt xs i → Head xs i m x
 
 -- out begins with k entries, and the net change of the rows not yet passed is what they lack to the whole
 pub record Passed (A B : List Row) (i j k : ℕ) (out : List ℕ) : Type 0 where

@@ -9,7 +9,7 @@ ghost use Prim.Native.Nat.{_+_, _*_, _/_, _≤_, _<_};
 ghost use lib.ListN.{length};
 ghost use Rattle.codec.specs.Parts.{put};
 ghost use Rattle.model.specs.NetChange.{changeBytes};
-ghost use Rattle.netting.specs.Merge.{changeAt, Underway, Passes, Merges};
+ghost use Rattle.netting.specs.Merge.{changeAt, Underway, Head, Passes, Merges};
 
 // How far a merge has come: the rows passed of either table, and the entries written.
 pub struct Way {
@@ -45,6 +45,19 @@ fn put_row(out: &mut [u8], k: usize, kind: u16, rows: &[u8], i: usize)
 
 // ---- the merge, one step
 
+// The article of row i of m, or a number above every article where there are no more rows. (Article 0
+// with count 0 is a row, so no row's bytes can stand for none.)
+fn head(rows: &[u8], i: usize, m: usize) -> u64
+    requires { ⌜ i ≤ m ⌝ }
+    requires { ⌜ 8 * m ≤ length (now rows) ⌝ }
+    ensures { λ r. ⌜ Head (now (rows .entry)) i m r ⌝ }
+{
+    if i == m {
+        return 4294967296;
+    }
+    codec::get32(rows, 8 * i) as u64
+}
+
 // Row i of a goes.
 fn gone(a: &[u8], i: usize, j: usize, out: &mut [u8], k: usize) -> Way
     requires { ⌜ 8 * i + 8 ≤ length (now a) ⌝ }
@@ -75,18 +88,19 @@ fn come(b: &[u8], i: usize, j: usize, out: &mut [u8], k: usize) -> Way
     }
 }
 
-// Row i of a and row j of b are of one article and have two counts: the deletion comes first.
-fn recounted(a: &[u8], i: usize, b: &[u8], j: usize, out: &mut [u8], k: usize) -> Way
-    requires { ⌜ 8 * i + 8 ≤ length (now a) ⌝ }
-    requires { ⌜ 8 * j + 8 ≤ length (now b) ⌝ }
+// Row i of what was and row j of what is are of one article and have two counts: the deletion comes
+// first.
+fn recounted(was: &[u8], i: usize, is: &[u8], j: usize, out: &mut [u8], k: usize) -> Way
+    requires { ⌜ 8 * i + 8 ≤ length (now was) ⌝ }
+    requires { ⌜ 8 * j + 8 ≤ length (now is) ⌝ }
     requires { ⌜ 12 * k + 24 ≤ length (now out) ⌝ }
     ensures way { λ w. ⌜ w ≡ record { left = i + 1; right = j + 1; entries = k + 2 } ⌝ }
     ensures entries { λ _. ⌜ now (out .exit) ≡ put (now (out .entry)) (12 * k)
-        (changeBytes (changeAt 3 (now (a .entry)) i) ++ changeBytes (changeAt 2 (now (b .entry)) j)) ⌝ }
+        (changeBytes (changeAt 3 (now (was .entry)) i) ++ changeBytes (changeAt 2 (now (is .entry)) j)) ⌝ }
 {
     let next = k + 1;
-    put_row(out, k, 3, a, i);
-    put_row(out, next, 2, b, j);
+    put_row(out, k, 3, was, i);
+    put_row(out, next, 2, is, j);
     Way {
         left: i + 1,
         right: j + 1,
@@ -101,14 +115,8 @@ fn pass(a: &[u8], i: usize, m: usize, b: &[u8], j: usize, n: usize, out: &mut [u
     ensures within { λ w. ⌜ (w .left ≤ m) × ((w .right ≤ n) × ((i + j < w .left + w .right) × (w .entries ≤ w .left + w .right))) ⌝ }
     ensures passes { λ w. ⌜ Passes (now (a .entry)) (now (b .entry)) m n i j k (now (out .entry)) (w .left) (w .right) (w .entries) (now (out .exit)) ⌝ }
 {
-    if j == n {
-        return gone(a, i, j, out, k);
-    }
-    if i == m {
-        return come(b, i, j, out, k);
-    }
-    let x = codec::get32(a, 8 * i);
-    let y = codec::get32(b, 8 * j);
+    let x = head(a, i, m);
+    let y = head(b, j, n);
     if x < y {
         return gone(a, i, j, out, k);
     }

@@ -37,9 +37,9 @@ returns c =
     let c2 = c .before .before in
     let c1 = c2 .before .before .before .before in
     let x = c1 .before .before .before .before .before .args in
-    let out = changeBytes (changeAt 3 (x .a .now) (x .i)) in
-    let into = changeBytes (changeAt 2 (x .b .now) (x .j)) in
-    let next : 12 * (x .k + 1) ≡ 12 * x .k + length out = omega (arith, length-change-bytes (changeAt 3 (x .a .now) (x .i))) in
+    let out = changeBytes (changeAt 3 (x .was .now) (x .i)) in
+    let into = changeBytes (changeAt 2 (x .is .now) (x .j)) in
+    let next : 12 * (x .k + 1) ≡ 12 * x .k + length out = omega (arith, length-change-bytes (changeAt 3 (x .was .now) (x .i))) in
     (refl, c2 .put-row2 .ensures ∙ rw (c1 .put-row .ensures, next) (put-append (x .out .now) (12 * x .k) out into (omega arith)))
 
 pub recounted-spec : {M : Type 1} → statement M
