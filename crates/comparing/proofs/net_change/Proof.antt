@@ -91,8 +91,8 @@ work-out-both-requires c κs =
     let x = c1 .before .before .before .before .before .before .before .before .args in
     let fine = c1 .before .is-sound .ensures .1 (c1 .if1 .taken) in
     record {
-      first-ready = ready-of fine (c2 .if2 .left) refl;
-      second-ready = ready-of fine (c3 .if3 .left) refl;
+      first-ready = ready-of fine (omega (arith, c2 .if2 .left, c3 .if3 .left)) refl;
+      second-ready = ready-of fine (omega (arith, c2 .if2 .left, c3 .if3 .left)) refl;
       work-is = length-take-le (16 * x .s .limit - 0) (x .work .now) (omega arith) ∙ sub-zero (16 * x .s .limit);
     }
 
