@@ -16,3 +16,4 @@ pub mod PromiseLaws
 pub mod AppendLaws
 pub mod RecordLaws
 pub mod AuditLaws
+pub mod FileLaws
