@@ -239,6 +239,7 @@ pub fn closed_up(c: Catalogue, files: usize, t: u64) -> Left
     requires { ⌜ files ≤ 16 ⌝ }
     ensures is { λ r. ⌜ r .catalogue ≡ withEntries c (entriesClosed (notOf t) files (c .entries)) ⌝ }
     ensures count { λ r. ⌜ r .files ≡ length (entriesStaying (notOf t) (take files (c .entries))) ⌝ }
+    ensures within { λ r. ⌜ r .files ≤ files ⌝ }
 {
     let mut left = Left {
         catalogue: c,

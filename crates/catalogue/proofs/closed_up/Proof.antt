@@ -59,7 +59,7 @@ returns c =
     let long = sixteen (a .c) _ (start .good .0) in
     let e : l .i ≡ a .files = omega arith in
     let is : l .left ≡ leftAfter (notOf (a .t)) (a .c) (a .files) = l .inv .1 .1 ∙ ap (leftAfter (notOf (a .t)) (a .c)) e in
-    (rw (c .emptied .ensures, is) (ap (withEntries (a .c)) (closed-is (notOf (a .t)) es (a .files) (omega arith))), rw is)
+    (rw (c .emptied .ensures, is) (ap (withEntries (a .c)) (closed-is (notOf (a .t)) es (a .files) (omega arith))), (rw is, omega arith))
 
 pub closed-up-spec : {M : Type 1} → statement M
 closed-up-spec =
