@@ -1,81 +1,166 @@
+-- `tree_audit::holds_tree` meets its contract. Invariant: the leaves before leaf m, and the nodes that they opened, stand.
+-- Measure: the records that are left. Assumes nothing.
+use Prim.Native.Nat.{_≤_, _+_, _*_, _-_}
+use mathlib.Core.Path.{_≡_, sym, ap, _∙_}
+use native.Mathlib.Omega.{arith}
+use native.Mathlib.Nat.{mul-le-mul}
+use lib.ListN.{length}
+use borrow.Author.Needs.{needs}
+use Rattle.tree_audit.specs.Times.{Decides}
+use Rattle.tree_audit.proofs.Standings.{tree-held, tree-not-held}
+use Rattle.tree_audit.proofs.Walks.{Walked, walked-none, walked-all, walked-few, walked-openable, walked-readable, walked-leaf, walked-not-opened, walked-not-leaf, walked-next}
 use Rattle.tree_audit.proofs.holds_tree.Statement.{statement}
 use Rattle.tree_audit.proofs.holds_tree.Tie as tie
-use Rattle.tree_audit.proofs.holds_tree.Reads as reads
-use Rattle.tree_audit.proofs.holds_tree.Lts as lts
-use Rattle.tree_audit.proofs.holds_opened.Reads as holds-opened-reads
-use Rattle.tree_audit.proofs.holds_times.Reads as holds-times-reads
-use Rattle.tree_audit.proofs.past_opened.Reads as past-opened-reads
-use Rattle.tree_audit.proofs.span_of.Reads as span-of-reads
 
 abbrev Inv-loop : tie.InvT-loop
-Inv-loop b n order page words w size stop m₀ at₀ first₀ m at first = ?
+Inv-loop b n order page words w size stop m₀ at₀ first₀ m at first = Walked order page n b words m at first
 
 abbrev μ-loop : tie.MeasureT-loop
-μ-loop b n order page words w size stop m₀ at₀ first₀ m at first = ?
+μ-loop b n order page words w size stop m₀ at₀ first₀ m at first = n - first
 
--- src/lib.rt:105:13
 sub-w : tie.Need-sub-w Inv-loop μ-loop
-sub-w c = ?
+sub-w c = omega arith
 
--- src/lib.rt:111:5
 loop-holds : tie.Need-loop-holds Inv-loop μ-loop
-loop-holds c = ?
+loop-holds c =
+    let st = c .before .before in
+    let a = st .args in
+    walked-none (a .order) (a .page) (a .n) (a .b .now) (a .words .now) (st .pre)
 
--- src/lib.rt:112:20
 span-of-requires : tie.Need-span-of-requires Inv-loop μ-loop
-span-of-requires c κs = ?
+span-of-requires c κs =
+    let i = c in
+    let l = i .before in
+    let st = l .before .before .before in
+    let a = st .args in
+    ((omega (arith, st .pre .order-low), omega (arith, st .pre .order-high)), walked-few (a .order) (a .page) (a .n) (a .b .now) (a .words .now) (st .pre) (l .loop .inv) (i .loop-test .taken))
 
--- src/lib.rt:112:20
 cast-span : tie.Need-cast-span Inv-loop μ-loop
-cast-span c = ?
+cast-span c = omega arith
 
--- src/lib.rt:113:12
 holds-opened-requires : tie.Need-holds-opened-requires Inv-loop μ-loop
-holds-opened-requires c κs = ?
+holds-opened-requires c κs =
+    let i = c .before in
+    let l = i .before in
+    let st = l .before .before .before in
+    let a = st .args in
+    walked-openable (a .order) (a .page) (a .n) (a .b .now) (a .words .now) (st .pre) (l .loop .inv) (i .loop-test .taken) (c .span-of .result) (c .span-of .ensures .1)
 
--- src/lib.rt:114:13
 returns : tie.Need-returns Inv-loop μ-loop
-returns c = ?
+unfolding Decides
+returns c =
+    let o = c .before in
+    let q = o .before in
+    let i = c .before .before .before in
+    let l = i .before in
+    let st = l .before .before .before in
+    let a = st .args in
+    tree-not-held (a .order) (a .page) (a .n) (a .b .now) (a .words .now) (st .pre)
+    (walked-not-opened (a .order) (a .page) (a .n) (a .b .now) (a .words .now) (st .pre) (l .loop .inv) (i .loop-test .taken) (q .span-of .result) (q .span-of .ensures .0) (rw (c .if1 .left) at (o .holds-opened .ensures)))
 
--- src/lib.rt:116:13
 past-opened-requires : tie.Need-past-opened-requires Inv-loop μ-loop
-past-opened-requires c κs = ?
+past-opened-requires c κs =
+    let q = c .before .before in
+    let i = c .before .before .before in
+    let l = i .before in
+    let st = l .before .before .before in
+    let a = st .args in
+    omega (arith, walked-openable (a .order) (a .page) (a .n) (a .b .now) (a .words .now) (st .pre) (l .loop .inv) (i .loop-test .taken) (q .span-of .result) (q .span-of .ensures .1) .node-there)
 
--- src/lib.rt:117:12
 holds-times-requires : tie.Need-holds-times-requires Inv-loop μ-loop
-holds-times-requires c κs = ?
+holds-times-requires c κs =
+    let p = c in
+    let q = p .before .before .before in
+    let i = c .before .before .before .before in
+    let l = i .before in
+    let st = l .before .before .before in
+    let a = st .args in
+    walked-readable (a .order) (a .page) (a .n) (a .b .now) (a .words .now) (st .pre) (l .loop .inv) (i .loop-test .taken) (p .past-opened .result) (p .past-opened .ensures ∙ walked-leaf (a .order) (a .page) (a .n) (a .b .now) (a .words .now) (st .pre) (l .loop .inv) (i .loop-test .taken) (q .span-of .result) (q .span-of .ensures .0))
 
--- src/lib.rt:118:13
 returns-2 : tie.Need-returns-2 Inv-loop μ-loop
-returns-2 c = ?
+unfolding Decides
+returns-2 c =
+    let t = c .before in
+    let p = t .before in
+    let q = p .before .before .before in
+    let i = c .before .before .before .before .before .before in
+    let l = i .before in
+    let st = l .before .before .before in
+    let a = st .args in
+    tree-not-held (a .order) (a .page) (a .n) (a .b .now) (a .words .now) (st .pre)
+    (walked-not-leaf (a .order) (a .page) (a .n) (a .b .now) (a .words .now) (st .pre) (l .loop .inv) (i .loop-test .taken) (q .span-of .result) (q .span-of .ensures .0) (p .past-opened .result) (p .past-opened .ensures ∙ walked-leaf (a .order) (a .page) (a .n) (a .b .now) (a .words .now) (st .pre) (l .loop .inv) (i .loop-test .taken) (q .span-of .result) (q .span-of .ensures .0)) (rw (c .if2 .left) at (t .holds-times .ensures)))
 
--- src/lib.rt:120:14
 add-at : tie.Need-add-at Inv-loop μ-loop
-add-at c = ?
+add-at c =
+    let p = c .before .before in
+    let q = p .before .before .before in
+    let i = c .before .before .before .before .before .before in
+    let l = i .before in
+    let st = l .before .before .before in
+    let a = st .args in
+    let there : p .past-opened .result + (a .order - 1) ≤ length (a .words .now) =
+    walked-readable (a .order) (a .page) (a .n) (a .b .now) (a .words .now) (st .pre) (l .loop .inv) (i .loop-test .taken) (p .past-opened .result) (p .past-opened .ensures ∙ walked-leaf (a .order) (a .page) (a .n) (a .b .now) (a .words .now) (st .pre) (l .loop .inv) (i .loop-test .taken) (q .span-of .result) (q .span-of .ensures .0)) .node-there in
+    omega (arith, there, st .good)
 
--- src/lib.rt:121:18
 mul-first : tie.Need-mul-first Inv-loop μ-loop
-mul-first c = ?
+mul-first c =
+    let i = c .before .before .before .before .before .before in
+    let l = i .before in
+    let st = l .before .before .before in
+    let a = st .args in
+    let wide : a .order - 1 ≤ 63 = omega (arith, st .pre .order-high) in
+    let page : a .page ≤ 64 = omega (arith, st .pre .page-high) in
+    omega (arith, mul-le-mul {n₂ = 63} {m₂ = 64} wide page)
 
--- src/lib.rt:121:9
 add-first : tie.Need-add-first Inv-loop μ-loop
-add-first c = ?
+add-first c =
+    let i = c .before .before .before .before .before .before in
+    let l = i .before in
+    let st = l .before .before .before in
+    let a = st .args in
+    let wide : a .order - 1 ≤ 63 = omega (arith, st .pre .order-high) in
+    let page : a .page ≤ 64 = omega (arith, st .pre .page-high) in
+    omega (arith, mul-le-mul {n₂ = 63} {m₂ = 64} wide page, i .loop-test .taken, st .pre .records-few)
 
--- src/lib.rt:122:9
 add-m : tie.Need-add-m Inv-loop μ-loop
-add-m c = ?
+add-m c =
+    let i = c .before .before .before .before .before .before in
+    let l = i .before in
+    let st = l .before .before .before in
+    let a = st .args in
+    omega (arith, walked-few (a .order) (a .page) (a .n) (a .b .now) (a .words .now) (st .pre) (l .loop .inv) (i .loop-test .taken))
 
--- src/lib.rt:111:5
 loop-less : tie.Need-loop-less Inv-loop μ-loop
-loop-less c = ?
+loop-less c =
+    let i = c .before .before .before .before .before .before in
+    let l = i .before in
+    let st = l .before .before .before in
+    let a = st .args in
+    let wide : 1 ≤ a .order - 1 = omega (arith, st .pre .order-low) in
+    let page : 1 ≤ a .page = omega (arith, st .pre .page-low) in
+    omega (arith, mul-le-mul {n₁ = 1} {m₁ = 1} wide page, i .loop-test .taken)
 
--- src/lib.rt:111:5
 loop-again : tie.Need-loop-again Inv-loop μ-loop
-loop-again c = ?
+unfolding Decides
+loop-again c =
+    let t = c .before in
+    let p = t .before in
+    let o = p .before .before in
+    let q = o .before in
+    let i = c .before .before .before .before .before .before in
+    let l = i .before in
+    let st = l .before .before .before in
+    let a = st .args in
+    walked-next (a .order) (a .page) (a .n) (a .b .now) (a .words .now) (st .pre) (l .loop .inv) (i .loop-test .taken) (q .span-of .result) (q .span-of .ensures .0) (p .past-opened .result) (p .past-opened .ensures ∙ walked-leaf (a .order) (a .page) (a .n) (a .b .now) (a .words .now) (st .pre) (l .loop .inv) (i .loop-test .taken) (q .span-of .result) (q .span-of .ensures .0))
+    (rw (p .before .if1 .taken) at (o .holds-opened .ensures)) (rw (c .if2 .taken) at (t .holds-times .ensures))
 
--- src/lib.rt:101:1
 returns-3 : tie.Need-returns-3 Inv-loop μ-loop
-returns-3 c = ?
+returns-3 c =
+    let l = c .before in
+    let st = l .before .before .before in
+    let a = st .args in
+    tree-held (a .order) (a .page) (a .n) (a .b .now) (a .words .now) (st .pre)
+    (walked-all (a .order) (a .page) (a .n) (a .b .now) (a .words .now) (st .pre) (l .loop .inv) (c .loop-test .left))
 
 pub holds-tree-spec : {M : Type 1} → statement M
 holds-tree-spec =
