@@ -1,1 +1,2 @@
 pub mod Progresses
+pub mod Seen
