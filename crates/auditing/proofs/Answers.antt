@@ -6,9 +6,9 @@ use mathlib.Core.Bool.{Bool, true, false, false≢true}
 use native.Mathlib.Omega.{arith}
 use native.Mathlib.Nat.{le-trans, le-of-suc-le-suc, not-suc-le-zero}
 use lib.ListN.{length, getD, take, drop, replicate, length-drop}
-use lib.Seq.{getD-take, getD-drop, length-take-le}
+use lib.Seq.{getD-take, getD-drop, length-take-le, take-all}
 use borrow.Author.Tests.{eq-eqb}
-use Rattle.codec.specs.Parts.{same}
+use Rattle.codec.specs.Parts.{same, zeros}
 use Rattle.codec.proofs.Sameness.{same-of-equal}
 use Rattle.model.specs.declared.Entry.{Entry}
 use Rattle.model.specs.declared.Numbers.{Numbers}
@@ -24,6 +24,9 @@ use Rattle.model.proofs.AuditLaws.{capacity-entries, audited-facts, audited-sou
 use Rattle.catalogue.specs.declared.Catalogue.{Catalogue}
 use Rattle.catalogue.specs.Files.{byValue, Loaded}
 use Rattle.catalogue.proofs.EntryLaws.{loaded-by-value}
+use Rattle.limits.specs.Fit.{Fit}
+use Rattle.tree_audit.specs.Times.{Decides}
+use Rattle.tree_audit.specs.Stands.{Auditable}
 use Rattle.auditing.specs.Walk.{LogStands, FilesFrom, ZeroEntries}
 
 denied : (st : State) → (Audited st → ⊥) → false ≡ auditOf st
@@ -32,6 +35,29 @@ denied st other = by (auditOf st) refl
     by : (r : Bool) → auditOf st ≡ r → false ≡ r
     by true e = absurd (other e)
     by false e = refl
+
+-- ---- what the parts of the audit ask for
+
+-- the bytes behind the header
+pub behind-header : (log : List ℕ) → take (length log - 24) (drop 24 log) ≡ drop 24 log
+behind-header log = take-all (length log - 24) (drop 24 log) (omega (arith, length-drop 24 log))
+
+pub tree-auditable : {s : Numbers} (log : List ℕ) {index table entries areas : ℕ} → Fit s (length log) index table entries areas
+    → Auditable (s .order) (s .page) (s .records) (length (drop 24 log)) index
+tree-auditable log fit = record {
+  order-low = fit .in-range .order-low;
+  order-high = fit .in-range .order-high;
+  page-low = fit .in-range .page-low;
+  page-high = fit .in-range .page-high;
+  records-few = fit .in-range .records-few;
+  log-long = omega (arith, fit .log-long, length-drop 24 log);
+  index-long = fit .index-long;
+}
+
+pub take-zeros : (k n : ℕ) → k ≤ n → take k (zeros n) ≡ zeros k
+take-zeros zero n h = refl
+take-zeros (suc k) zero h = absurd (not-suc-le-zero h)
+take-zeros (suc k) (suc n) h = ap (λ (xs : List ℕ). 0 ∷ xs) (take-zeros k n (le-of-suc-le-suc h))
 
 -- ---- zero entries
 
@@ -65,7 +91,7 @@ module _ (s : Numbers) (log index current : List ℕ) (c : Catalogue) (areas : L
   pub denied-tree : same (withTree (s .order) (pageTimes (s .page) (records (drop 24 log) (s .records))) index) index ≡ false → false ≡ auditOf st
   denied-tree e = denied st (λ ok. false≢true (sym e ∙ same-of-equal _ _ (audited-facts st ok .index-is)))
 
-  pub denied-log : (LogStands s (drop 24 log) current × FilesFrom (s .limit) (s .records) (s .last) (s .files) (drop 24 log) areas catalogue 0 0 → ⊥) → false ≡ auditOf st
+  denied-log : (LogStands s (drop 24 log) current × FilesFrom (s .limit) (s .records) (s .last) (s .files) (drop 24 log) areas catalogue 0 0 → ⊥) → false ≡ auditOf st
   denied-log other = denied st (λ ok.
       let f = audited-facts st ok in
       other (record { log-legal = f .log-legal; last-is = f .last-is; live-is = f .live-is; table-is = f .table-is }, f .files-are))
@@ -97,7 +123,7 @@ module _ (s : Numbers) (log index current : List ℕ) (c : Catalogue) (areas : L
         let long : length (drop (s .files) (take room catalogue)) ≡ room - s .files = length-drop (s .files) (take room catalogue) ∙ rw front in
         entries-all-zero (drop (s .files) (take room catalogue)) (λ i l. rest-get i (omega (arith, long, l)) ∙ blank (s .files + i) (omega arith) (omega (arith, long, l)))
 
-    pub granted : fits s log (length index) (length current) (c .lent) (length areas) ≡ true
+    granted : fits s log (length index) (length current) (c .lent) (length areas) ≡ true
         → ZeroEntries (s .files) room (c .entries)
         → same (withTree (s .order) (pageTimes (s .page) (records (drop 24 log) (s .records))) index) index ≡ true
         → LogStands s (drop 24 log) current × FilesFrom (s .limit) (s .records) (s .last) (s .files) (drop 24 log) areas catalogue 0 0
@@ -114,3 +140,16 @@ module _ (s : Numbers) (log index current : List ℕ) (c : Catalogue) (areas : L
         tree)
         (test-of-files st 0 _ (logs .1)))
         (rw lent at (rest-zero blank)))
+
+    -- the walk's answer is the audit's, once the rest stands
+    pub answered : (r : Bool) → fits s log (length index) (length current) (c .lent) (length areas) ≡ true
+        → ZeroEntries (s .files) room (c .entries)
+        → same (withTree (s .order) (pageTimes (s .page) (records (drop 24 log) (s .records))) index) index ≡ true
+        → Decides r (LogStands s (drop 24 log) current × FilesFrom (s .limit) (s .records) (s .last) (s .files) (drop 24 log) areas catalogue 0 0)
+        → r ≡ auditOf st
+    unfolding Decides
+    answered true sound blank tree stands = granted sound blank tree stands
+    answered false sound blank tree stands = denied-log stands
+
+  pub files-loaded : s .files ≤ 16 → s .files ≤ c .lent → Loaded catalogue (s .files) c
+  files-loaded few some = loaded-by-value catalogue is (s .files) few (omega (arith, lent))
