@@ -2,7 +2,7 @@
 // out into the workspace and then merged.
 ghost use mathlib.Core.Path.{_≡_};
 ghost use mathlib.Core.List.{List};
-ghost use Prim.Native.Nat.{ℕ, _*_, _≤_};
+ghost use Prim.Native.Nat.{_*_, _≤_};
 ghost use lib.ListN.{length};
 ghost use Rattle.codec.specs.Parts.{part};
 ghost use Rattle.model.specs.declared.Entry.{Entry};

@@ -5,8 +5,8 @@ use mathlib.Core.Logic.{_⊎_, inl, inr}
 use mathlib.Core.List.{List, [], _∷_, _++_, append-assoc, append-nil}
 use native.Mathlib.Omega.{arith}
 use native.Mathlib.Numerals.{add-one}
-use native.Mathlib.Nat.{add-zero, mul-add}
-use lib.ListN.{length, take, drop, length-append, length-replicate, drop-of-length-le}
+use native.Mathlib.Nat.{mul-add}
+use lib.ListN.{length, drop, length-append, length-replicate, drop-of-length-le}
 use lib.Seq.{drop-cons, drop-length}
 use Rattle.codec.specs.Parts.{put, zeros}
 use Rattle.codec.proofs.PartLaws.{take-put-end, length-put}

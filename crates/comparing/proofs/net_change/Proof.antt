@@ -32,7 +32,7 @@ unfolding netChangeOutcome refusal
 returns-2 c catalogue e =
     let c1 = c .before .before in
     let x = c1 .before .before .before .before .before .before .before .before .args in
-    net-first-late (storeOf (x .s) (x .log .now) (x .index .now) (x .current .now) catalogue (x .areas .now)) (x .a) (x .b) (x .out .now) (x .work .now) (rw (← ap (λ (y : Catalogue). y .lent) e) (sym (c1 .before .is-sound .ensures .0) ∙ c1 .if1 .taken)) (c .if2 .taken)
+    net-first-late (storeOf (x .s) (x .log .now) (x .index .now) (x .current .now) catalogue (x .areas .now)) (x .a) (x .b) (x .out .now) (x .work .now) (rw (← ap (λ (y : Catalogue). y .lent) e) (sym (c1 .before .is-sound .ensures .0) ∙ c1 .if1 .taken)) (omega (arith, c .if2 .taken))
 
 returns-3 : tie.Need-returns-3
 unfolding netChangeOutcome refusal
@@ -40,7 +40,7 @@ returns-3 c catalogue e =
     let c2 = c .before .before in
     let c1 = c2 .before .before in
     let x = c1 .before .before .before .before .before .before .before .before .args in
-    net-second-late (storeOf (x .s) (x .log .now) (x .index .now) (x .current .now) catalogue (x .areas .now)) (x .a) (x .b) (x .out .now) (x .work .now) (rw (← ap (λ (y : Catalogue). y .lent) e) (sym (c1 .before .is-sound .ensures .0) ∙ c1 .if1 .taken)) (c2 .if2 .left) (c .if3 .taken)
+    net-second-late (storeOf (x .s) (x .log .now) (x .index .now) (x .current .now) catalogue (x .areas .now)) (x .a) (x .b) (x .out .now) (x .work .now) (rw (← ap (λ (y : Catalogue). y .lent) e) (sym (c1 .before .is-sound .ensures .0) ∙ c1 .if1 .taken)) (omega (arith, c2 .if2 .left)) (omega (arith, c2 .if2 .left, c .if3 .taken))
 
 cast-size : tie.Need-cast-size
 cast-size c = search needs
@@ -55,7 +55,7 @@ returns-4 c catalogue e =
     let c2 = c3 .before .before in
     let c1 = c2 .before .before in
     let x = c1 .before .before .before .before .before .before .before .before .args in
-    net-output-short (storeOf (x .s) (x .log .now) (x .index .now) (x .current .now) catalogue (x .areas .now)) (x .a) (x .b) (x .out .now) (x .work .now) (rw (← ap (λ (y : Catalogue). y .lent) e) (sym (c1 .before .is-sound .ensures .0) ∙ c1 .if1 .taken)) (c2 .if2 .left) (c3 .if3 .left) (c .if4 .taken)
+    net-output-short (storeOf (x .s) (x .log .now) (x .index .now) (x .current .now) catalogue (x .areas .now)) (x .a) (x .b) (x .out .now) (x .work .now) (rw (← ap (λ (y : Catalogue). y .lent) e) (sym (c1 .before .is-sound .ensures .0) ∙ c1 .if1 .taken)) (omega (arith, c2 .if2 .left)) (omega (arith, c3 .if3 .left)) (omega (arith, c .if4 .taken))
 
 cast-space : tie.Need-cast-space
 cast-space c = search needs
@@ -71,7 +71,7 @@ returns-5 c catalogue e =
     let c2 = c3 .before .before in
     let c1 = c2 .before .before in
     let x = c1 .before .before .before .before .before .before .before .before .args in
-    net-workspace-short (storeOf (x .s) (x .log .now) (x .index .now) (x .current .now) catalogue (x .areas .now)) (x .a) (x .b) (x .out .now) (x .work .now) (rw (← ap (λ (y : Catalogue). y .lent) e) (sym (c1 .before .is-sound .ensures .0) ∙ c1 .if1 .taken)) (c2 .if2 .left) (c3 .if3 .left) (c4 .if4 .left) (c .if5 .taken)
+    net-workspace-short (storeOf (x .s) (x .log .now) (x .index .now) (x .current .now) catalogue (x .areas .now)) (x .a) (x .b) (x .out .now) (x .work .now) (rw (← ap (λ (y : Catalogue). y .lent) e) (sym (c1 .before .is-sound .ensures .0) ∙ c1 .if1 .taken)) (omega (arith, c2 .if2 .left)) (omega (arith, c3 .if3 .left)) (omega (arith, c4 .if4 .left)) (omega (arith, c .if5 .taken))
 
 sub-work-out-both : tie.Need-sub-work-out-both
 sub-work-out-both c = search needs
@@ -145,7 +145,7 @@ returns-6 c catalogue e =
     net-answers (storeOf (x .s) (x .log .now) (x .index .now) (x .current .now) catalogue (x .areas .now)) (x .a) (x .b) (x .out .now) (x .work .now) (x .c) (w .work-out-both .result) (k .merge-both .result) _ _
     (w .work-out-both .kept .1 .1 .1 .1 .1 .1 .1 .1 .0 ∙ space) (k .merge-both .kept .1 .1 .1 .0 ∙ size) known
     (loaded-by-value catalogue e (x .s .files) (fine .files-sixteen) (rw lent at (fine .files-lent))) (w .work-out-both .ensures .1) (k .merge-both .ensures .1)
-    (rw (← ap (λ (y : Catalogue). y .lent) e) (sym (c1 .before .is-sound .ensures .0) ∙ c1 .if1 .taken)) (c2 .if2 .left) (c3 .if3 .left) (c4 .if4 .left) (c5 .if5 .left)
+    (rw (← ap (λ (y : Catalogue). y .lent) e) (sym (c1 .before .is-sound .ensures .0) ∙ c1 .if1 .taken)) (omega (arith, c2 .if2 .left)) (omega (arith, c3 .if3 .left)) (omega (arith, c4 .if4 .left)) (omega (arith, c5 .if5 .left))
 
 pub net-change-spec : {M : Type 1} → statement M
 net-change-spec =
