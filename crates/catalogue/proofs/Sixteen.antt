@@ -1,5 +1,4 @@
 -- What the type of a catalogue by value says: it has sixteen entries. Assumes nothing.
-use Prim.Native.Nat.{ℕ}
 use mathlib.Core.Path.{_≡_, sym, _∙_}
 use mathlib.Core.List.{List}
 use lib.ListN.{length, length-map}

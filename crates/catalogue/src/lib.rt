@@ -158,8 +158,8 @@ pub fn is_kept(c: Catalogue, files: usize, t: u64) -> bool
 {
     let mut i = 0;
     while i < files {
-        let e = entry_of(c, i);
-        if e.time == t {
+        let file = entry_of(c, i);
+        if file.time == t {
             return true;
         }
         i += 1;
@@ -175,8 +175,8 @@ pub fn place(c: Catalogue, files: usize, t: u64) -> usize
 {
     let mut i = 0;
     while i < files {
-        let e = entry_of(c, i);
-        if t <= e.time {
+        let next = entry_of(c, i);
+        if t <= next.time {
             return i;
         }
         i += 1;

@@ -1,38 +1,32 @@
 -- The promises of keep and drop, from the answers to the questions and what the code says on any memory: one law for each
 -- return. Assumes nothing.
-use Prim.Native.Nat.{ℕ, zero, suc, _+_, _-_, _*_, _≤_, _<_}
+use Prim.Native.Nat.{ℕ, suc, _+_, _*_, _≤_, _<_}
 use mathlib.Core.Path.{_≡_, refl, sym, ap, _∙_}
-use mathlib.Core.List.{List, [], _∷_, _++_, map}
+use mathlib.Core.List.{List, [], map}
 use mathlib.Core.Bool.{Bool, true, false, not}
 use native.Mathlib.Omega.{arith}
-use lib.ListN.{length, take, drop, length-append, length-drop, length-map}
-use lib.Seq.{length-take-le, take-take}
-use lib.Dec.{leb, ltb, eqb}
+use lib.ListN.{length, take, drop, length-map}
+use lib.Seq.{length-take-le}
+use lib.Dec.{eqb}
 use borrow.Author.Tests.{le-leb, lt-leb, lt-ltb, le-ltb, eq-eqb, ne-eqb}
-use Rattle.codec.specs.Parts.{put, part}
-use Rattle.codec.proofs.PartLaws.{part-is-slice}
+use Rattle.codec.specs.Parts.{put}
 use Rattle.model.specs.declared.Numbers.{Numbers}
 use Rattle.model.specs.declared.Entry.{Entry}
 use Rattle.model.specs.Answers.{refuses, answers, firstNo}
 use Rattle.model.specs.Memory.{State, state, sound, fits, capacity}
 use Rattle.model.specs.Starts.{After, after}
-use Rattle.model.specs.Files.{File, filesIn, filesOf, areasBytes, entryOf, withFiles, withCount, isKept, fileIn, fileAt, keepOf, staying, closedUp, notOf, dropOf}
-use Rattle.model.specs.Audit.{Audited}
+use Rattle.model.specs.Files.{File, filesOf, areasBytes, entryOf, withFiles, withCount, isKept, keepOf, staying, closedUp, notOf, dropOf}
 use Rattle.model.specs.Promises.{storeOf, isRefused, FilesPromise}
 use Rattle.model.proofs.PromiseLaws.{asked-refused, asked-answered, not-refused, beyond-same}
-use Rattle.model.proofs.FileLaws.{map-append, areas-append, length-files-in, entries-files-in, areas-files-in, Whole, whole-files-in, whole-append, whole-staying, whole-closed-up, length-staying, length-closed-up, files-frame}
+use Rattle.model.proofs.FileLaws.{length-files-in, Whole, whole-files-in, whole-staying, whole-closed-up, length-staying, length-closed-up, files-frame}
 use Rattle.catalogue.specs.declared.Catalogue.{Catalogue}
 use Rattle.catalogue.specs.declared.Left.{Left}
 use Rattle.catalogue.specs.Files.{byValue, writtenBack}
-use Rattle.catalogue.specs.Entries.{timeKept, placeOf, entriesStaying, withEntries, entryPut, entriesClosed}
-use Rattle.catalogue.proofs.EntryLaws.{loaded-by-value, length-by-value, front-by-value, written-back}
+use Rattle.catalogue.specs.Entries.{timeKept, entriesStaying, withEntries, entriesClosed}
+use Rattle.catalogue.proofs.EntryLaws.{front-by-value, written-back}
 use Rattle.limits.specs.Fit.{Fit}
-use Rattle.limits.proofs.FitLaws.{capacity-sixteen, capacity-entries, capacity-areas}
-use Rattle.tables.specs.declared.Worked.{Worked}
-use Rattle.tables.specs.Ways.{WorkedOut}
-use Rattle.filing.specs.Filing.{kept, Keeping, areaPut, areasClosed}
-use Rattle.filing.proofs.Moves.{gap-in-front}
-use Rattle.filing.proofs.FileEntries.{kept-is, file-in-at, place-within, entries-closed, count-staying}
+use Rattle.filing.specs.Filing.{Keeping, areasClosed}
+use Rattle.filing.proofs.FileEntries.{kept-is, entries-closed, count-staying}
 
 module _ (s : Numbers) (log index table : List ℕ) (catalogue : List Entry) (areas : List ℕ) (c : Catalogue) (same : c ≡ byValue catalogue) where
   abbrev st : State

@@ -11,8 +11,8 @@ use lib.Seq.{take-suc, length-take-le}
 use Rattle.codec.specs.Parts.{zeros, part, put}
 use Rattle.model.specs.declared.Entry.{Entry}
 use Rattle.model.specs.Memory.{noEntry}
-use Rattle.model.specs.Files.{File, filesIn, noFile, areasBytes, staying, closedUp}
-use Rattle.model.proofs.FileLaws.{files-in-append, length-files-in, areas-append, areas-none, Whole, whole-files-in, whole-staying, length-whole, staying-next, length-staying}
+use Rattle.model.specs.Files.{File, filesIn, noFile, areasBytes, staying}
+use Rattle.model.proofs.FileLaws.{files-in-append, length-files-in, areas-append, areas-none, whole-files-in, whole-staying, length-whole, staying-next, length-staying}
 use Rattle.filing.specs.Filing.{areaJoined, areasClosed}
 use Rattle.filing.proofs.Moves.{brought-behind, put-behind}
 

@@ -6,11 +6,11 @@ use mathlib.Core.Bool.{Bool, true, false, cond}
 use native.Mathlib.Omega.{arith}
 use native.Mathlib.Nat.{add-zero}
 use lib.ListN.{length, take, drop, replicate, length-map}
-use lib.Dec.{ltb, eqb}
+use lib.Dec.{ltb}
 use Rattle.model.specs.declared.Entry.{Entry}
 use Rattle.model.specs.Memory.{noEntry}
 use Rattle.model.specs.Files.{File, filesIn, noFile, entryOf, isKept, fileIn, staying, closedUp}
-use Rattle.model.proofs.FileLaws.{map-append, map-replicate, entries-files-in}
+use Rattle.model.proofs.FileLaws.{map-append, map-replicate}
 use Rattle.catalogue.specs.Entries.{timeKept, placeOf, entriesStaying}
 
 module _ (R : ℕ) (areas : List ℕ) where

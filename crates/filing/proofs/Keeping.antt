@@ -1,7 +1,7 @@
 -- A file more: its entry and its table at their place are what the definition writes at the front of catalogue and areas.
 -- Assumes nothing.
-use Prim.Native.Nat.{ℕ, suc, _+_, _-_, _*_, _≤_, _<_}
-use mathlib.Core.Path.{_≡_, refl, sym, ap, _∙_}
+use Prim.Native.Nat.{ℕ, _+_, _-_, _*_, _≤_, _<_}
+use mathlib.Core.Path.{_≡_, sym, ap, _∙_}
 use mathlib.Core.List.{List, [], _∷_, _++_, map}
 use native.Mathlib.Omega.{arith}
 use native.Mathlib.Nat.{mul-add, mul-le-mul-right}
@@ -14,14 +14,14 @@ use Rattle.model.specs.declared.Entry.{Entry}
 use Rattle.model.specs.Memory.{State, state}
 use Rattle.model.specs.Files.{File, filesIn, filesOf, areasBytes, entryOf, withFiles, withCount, fileIn, fileAt}
 use Rattle.model.specs.Promises.{storeOf}
-use Rattle.model.proofs.FileLaws.{map-append, areas-append, length-files-in, entries-files-in, areas-files-in, Whole, whole-files-in, whole-append, files-frame}
+use Rattle.model.proofs.FileLaws.{map-append, areas-append, entries-files-in, areas-files-in, Whole, whole-files-in, whole-append, files-frame}
 use Rattle.catalogue.specs.declared.Catalogue.{Catalogue}
 use Rattle.catalogue.specs.Files.{byValue, writtenBack}
 use Rattle.catalogue.specs.Entries.{placeOf, withEntries, entryPut}
 use Rattle.catalogue.proofs.EntryLaws.{loaded-by-value, length-by-value, front-by-value, written-back}
 use Rattle.tables.specs.declared.Worked.{Worked}
 use Rattle.tables.specs.Ways.{WorkedOut}
-use Rattle.filing.specs.Filing.{kept, Keeping, areaPut}
+use Rattle.filing.specs.Filing.{Keeping, areaPut}
 use Rattle.filing.proofs.Moves.{gap-in-front}
 use Rattle.filing.proofs.FileEntries.{file-in-at, place-within}
 

@@ -1,18 +1,18 @@
 -- Lists of count files, over any entries and areas: the files that are read from them in order, the bytes of their areas, and
 -- those that stay. Assumes nothing.
 use Prim.Native.Nat.{ℕ, zero, suc, _+_, _-_, _*_, _≤_}
-use mathlib.Core.Path.{_≡_, refl, sym, ap, _∙_}
+use mathlib.Core.Path.{_≡_, refl, ap, _∙_}
 use mathlib.Core.List.{List, [], _∷_, _++_, append-assoc, map}
 use mathlib.Core.Bool.{Bool, true, false, cond}
 use native.Mathlib.Omega.{arith}
-use native.Mathlib.Nat.{add-zero, add-suc, suc-add}
-use lib.ListN.{length, take, drop, replicate, length-append, length-replicate, length-map, replicate-append-replicate}
+use native.Mathlib.Nat.{add-zero}
+use lib.ListN.{length, drop, replicate, length-append, length-replicate, length-map, replicate-append-replicate}
 use lib.Seq.{take-add, drop-drop}
 use Rattle.codec.specs.Parts.{zeros, put, part}
 use Rattle.codec.proofs.PartLaws.{length-part, length-put, drop-put}
 use Rattle.model.specs.declared.Entry.{Entry}
 use Rattle.model.specs.declared.Numbers.{Numbers}
-use Rattle.model.specs.Memory.{State, state, noEntry}
+use Rattle.model.specs.Memory.{State, state}
 use Rattle.model.specs.Files.{File, filesIn, noFile, areasBytes, entryOf, staying, closedUp, withFiles}
 use Rattle.model.specs.Promises.{Beyond, FilesFrame}
 

@@ -1,14 +1,10 @@
 -- `catalogue::closed_up` meets its contract. Invariant: of the first i entries those that stay stand in front, and their
 -- number is told. Measure: the entries from i on. Assumes nothing.
-use Prim.Native.Nat.{ℕ, _+_, _-_, _≤_}
-use mathlib.Core.Path.{_≡_, refl, sym, ap, _∙_}
+use Prim.Native.Nat.{_+_, _-_, _≤_}
+use mathlib.Core.Path.{_≡_, refl, ap, _∙_}
 use native.Mathlib.Omega.{arith}
-use lib.ListN.{length, take}
-use Rattle.codec.proofs.PartLaws.{put-nil}
 use Rattle.model.specs.Files.{notOf}
-use Rattle.catalogue.specs.declared.Catalogue.{Catalogue}
-use Rattle.catalogue.specs.declared.Left.{Left}
-use Rattle.catalogue.specs.Entries.{entriesStaying, withEntries, entriesClosed}
+use Rattle.catalogue.specs.Entries.{entriesStaying, withEntries}
 use Rattle.catalogue.proofs.Sixteen.{sixteen}
 use Rattle.catalogue.proofs.EntryTurns.{leftAfter, left-few, left-turn, closed-is}
 use Rattle.catalogue.proofs.closed_up.Statement.{statement}

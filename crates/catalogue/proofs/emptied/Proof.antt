@@ -1,13 +1,11 @@
 -- `catalogue::emptied` meets its contract. Invariant: the entries from `start` up to k are zero, and all else is as it was.
 -- Measure: the entries still to be zero. Assumes nothing.
 use Prim.Native.Nat.{ℕ, _+_, _-_, _≤_}
-use mathlib.Core.Path.{_≡_, refl, sym, ap, _∙_}
-use mathlib.Core.List.{List}
+use mathlib.Core.Path.{_≡_, sym, ap, _∙_}
 use native.Mathlib.Omega.{arith}
-use lib.ListN.{length, set, replicate}
+use lib.ListN.{set, replicate}
 use Rattle.codec.specs.Parts.{put}
 use Rattle.codec.proofs.PartLaws.{put-nil}
-use Rattle.model.specs.declared.Entry.{Entry}
 use Rattle.model.specs.Memory.{noEntry}
 use Rattle.catalogue.specs.Entries.{withEntries}
 use Rattle.catalogue.proofs.Sixteen.{sixteen}

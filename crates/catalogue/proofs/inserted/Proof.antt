@@ -1,15 +1,11 @@
 -- `catalogue::inserted` meets its contract. Invariant: the entries from i on are one place up. Measure: those from `at` up to
 -- i. Assumes nothing.
-use Prim.Native.Nat.{ℕ, _+_, _-_, _≤_}
-use mathlib.Core.Path.{_≡_, refl, sym, ap, _∙_}
-use mathlib.Core.List.{List, [], _∷_}
+use Prim.Native.Nat.{_-_, _≤_}
+use mathlib.Core.Path.{_≡_, sym, ap}
 use native.Mathlib.Omega.{arith}
-use lib.ListN.{length, set}
-use Rattle.codec.specs.Parts.{put, movedUp}
+use Rattle.codec.specs.Parts.{movedUp}
 use Rattle.codec.proofs.PartLaws.{put-one}
 use Rattle.codec.proofs.Moves.{moved-up-none, length-moved-up}
-use Rattle.model.specs.declared.Entry.{Entry}
-use Rattle.model.specs.Memory.{noEntry}
 use Rattle.catalogue.specs.Entries.{withEntries}
 use Rattle.catalogue.proofs.Sixteen.{sixteen}
 use Rattle.catalogue.proofs.EntryTurns.{up-turn}

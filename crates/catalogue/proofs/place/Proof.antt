@@ -1,9 +1,9 @@
 -- `catalogue::place` meets its contract. Invariant: the first i entries are passed. Measure: the entries from i on. Assumes
 -- nothing.
-use Prim.Native.Nat.{ℕ, suc, _+_, _-_, _≤_}
-use mathlib.Core.Path.{_≡_, sym, ap, _∙_}
+use Prim.Native.Nat.{_+_, _-_, _≤_}
+use mathlib.Core.Path.{_≡_}
 use native.Mathlib.Omega.{arith}
-use lib.ListN.{length, take, drop}
+use lib.ListN.{take, drop}
 use borrow.Author.Tests.{lt-ltb, le-ltb}
 use Rattle.catalogue.specs.Entries.{placeOf}
 use Rattle.catalogue.proofs.Sixteen.{sixteen}
@@ -30,7 +30,7 @@ returns c =
     let start = e .before .before .before in
     let a = start .args in
     let long = sixteen (a .c) _ (start .good .0) in
-    let here = place-here (a .c .entries) (a .files) (l .i) (omega arith) (omega arith) (a .t) (rw (← e .entry-of .ensures) (le-ltb _ _ (c .if1 .taken))) in
+    let here = place-here (a .c .entries) (a .files) (l .i) (omega arith) (omega arith) (a .t) (rw (← e .entry-of .ensures) (le-ltb (e .entry-of .result .time) (a .t) (omega arith))) in
     (omega (arith, l .inv .1, here), omega arith)
 
 add-i : tie.Need-add-i Inv-loop μ-loop
@@ -46,7 +46,7 @@ loop-again c =
     let start = e .before .before .before in
     let a = start .args in
     let long = sixteen (a .c) _ (start .good .0) in
-    let later = place-later (a .c .entries) (a .files) (l .i) (omega arith) (omega arith) (a .t) (rw (← e .entry-of .ensures) (lt-ltb _ _ (c .if1 .left))) in
+    let later = place-later (a .c .entries) (a .files) (l .i) (omega arith) (omega arith) (a .t) (rw (← e .entry-of .ensures) (lt-ltb (e .entry-of .result .time) (a .t) (omega arith))) in
     (omega arith, omega (arith, l .inv .1, later))
 
 returns-2 : tie.Need-returns-2 Inv-loop μ-loop

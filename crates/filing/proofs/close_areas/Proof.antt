@@ -1,7 +1,7 @@
 -- `filing::close_areas` meets its contract. Invariant: of the first i files those that stay have their areas at the front, j of
 -- them. Measure: the files from i on. Assumes nothing.
 use Prim.Native.Nat.{_+_, _-_, _*_, _≤_}
-use mathlib.Core.Path.{_≡_, refl, sym, ap, _∙_}
+use mathlib.Core.Path.{_≡_, refl, _∙_}
 use native.Mathlib.Omega.{arith}
 use native.Mathlib.Nat.{mul-le-mul-right}
 use lib.ListN.{length}

@@ -1,7 +1,6 @@
 -- `filing::drop` meets its promise: each refusal is the first question answered no, and else the file is dropped. Assumes
 -- nothing.
-use mathlib.Core.Path.{_≡_, sym, _∙_}
-use native.Mathlib.Omega.{arith}
+use mathlib.Core.Path.{sym, _∙_}
 use Rattle.model.specs.Answers.{verdictOutcome, refusal}
 use Rattle.filing.proofs.Calls.{drop-header, drop-none, drop-accepts}
 use borrow.Author.Needs.{needs}

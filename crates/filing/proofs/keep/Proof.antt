@@ -4,7 +4,6 @@ use mathlib.Core.Path.{_≡_, refl, sym, _∙_}
 use native.Mathlib.Omega.{arith}
 use lib.ListN.{length}
 use Rattle.model.specs.Answers.{verdictOutcome, refusal}
-use Rattle.limits.specs.Fit.{Fit}
 use Rattle.limits.proofs.FitLaws.{capacity-sixteen, capacity-entries, capacity-areas}
 use Rattle.tables.proofs.Answers.{ready-of}
 use Rattle.filing.proofs.Calls.{keep-header, keep-late, keep-zero, keep-twice, keep-full, keep-accepts}

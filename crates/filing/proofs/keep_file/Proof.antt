@@ -1,10 +1,10 @@
 -- `filing::keep_file` meets its contract: the table that was worked out aside is the file's area. Assumes nothing.
 use Prim.Native.Nat.{ℕ, _-_, _*_}
-use mathlib.Core.Path.{_≡_, refl, sym, ap, _∙_}
+use mathlib.Core.Path.{_≡_, sym, ap, _∙_}
 use mathlib.Core.List.{List}
 use native.Mathlib.Omega.{arith}
 use native.Mathlib.Nat.{sub-zero}
-use lib.ListN.{length, length-append, length-take, length-drop, length-replicate}
+use lib.ListN.{length, length-append, length-take, length-drop}
 use lib.Seq.{take-at}
 use Rattle.filing.specs.Filing.{areaPut}
 use Rattle.filing.proofs.Keeping.{keeping-of}
@@ -46,10 +46,21 @@ part-put-area-end : tie.Need-part-put-area-end
 part-put-area-end c =
     let worked = c .before .before .before .before in
     let k = worked .work-out .kept .1 .1 .1 .1 .1 .1 .1 .0 in
-    simp (length-append, length-drop, length-replicate) (omega (arith, k))
+    simp (length-append, length-drop) (omega (arith, k))
 
 put-area-requires : tie.Need-put-area-requires
-put-area-requires c κs = search needs
+put-area-requires c κs =
+    let place = c .before .before .before in
+    let worked = place .before .before in
+    let start = worked .before .before .before .before .before .before .before .before .before in
+    let k = worked .work-out .kept .1 .1 .1 .1 .1 .1 .1 .0 in
+    record {
+      limit-high = start .pre .0 .limit-high;
+      files-few = start .pre .1 .0;
+      within = place .place .ensures .1;
+      areas-long = start .pre .1 .1;
+      table-is = simp (length-take, length-drop, length-append) (omega (arith, k));
+    }
 
 inserted-requires : tie.Need-inserted-requires
 inserted-requires c κs = search needs
@@ -66,7 +77,7 @@ returns c catalogue same few =
     let a = start .args in
     let size = 8 * a .s .limit in
     let ys = worked .work-out .last .1 .1 .1 .1 .1 .1 .1 .0 in
-    let long : length ys ≡ size = worked .work-out .kept .1 .1 .1 .1 .1 .1 .1 .0 ∙ simp (length-take, length-drop, length-replicate) (omega arith) in
+    let long : length ys ≡ size = worked .work-out .kept .1 .1 .1 .1 .1 .1 .1 .0 ∙ simp (length-take, length-drop) (omega arith) in
     let areas-are : put .put-area .last .0 ≡ areaPut (a .s .limit) (a .s .files) (place .place .result) ys (a .areas .now) =
     put .put-area .ensures ∙ ap (λ (xs : List ℕ). areaPut (a .s .limit) (a .s .files) (place .place .result) xs (a .areas .now)) (take-at ys _ (size - 0) (long ∙ sym (sub-zero size))) in
     keeping-of (a .s) (a .log .now) (a .index .now) (a .current .now) catalogue (a .areas .now) (a .c) same (a .t) (worked .work-out .result) (place .place .result)

@@ -1,9 +1,9 @@
 -- `filing::put_area` meets its contract: the areas behind move up, and the table fills the gap. Assumes nothing.
 use Prim.Native.Nat.{_+_, _-_, _*_, _≤_}
-use mathlib.Core.Path.{_≡_, refl, sym, ap, _∙_}
+use mathlib.Core.Path.{ap, _∙_}
 use native.Mathlib.Omega.{arith}
 use native.Mathlib.Nat.{add-zero, mul-le-mul-right}
-use lib.ListN.{length, take, drop}
+use lib.ListN.{length}
 use Rattle.codec.proofs.PartLaws.{put-within}
 use Rattle.codec.proofs.Moves.{length-moved-up}
 use borrow.Author.Needs.{needs}
