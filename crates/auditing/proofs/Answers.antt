@@ -1,10 +1,10 @@
 -- The audit's answer: what each no denies, and what all yes together grant. Assumes nothing.
-use Prim.Native.Nat.{ℕ, zero, suc, _+_, _-_, _*_, _/_, _≤_, _<_, zero-le}
+use Prim.Native.Nat.{ℕ, zero, suc, _+_, _-_, _≤_, _<_}
 use mathlib.Core.Path.{_≡_, refl, sym, ap, _∙_}
 use mathlib.Core.List.{List, [], _∷_}
 use mathlib.Core.Bool.{Bool, true, false, false≢true}
 use native.Mathlib.Omega.{arith}
-use native.Mathlib.Nat.{le-trans, le-of-suc-le-suc, not-suc-le-zero}
+use native.Mathlib.Nat.{le-of-suc-le-suc, not-suc-le-zero}
 use lib.ListN.{length, getD, take, drop, replicate, length-drop}
 use lib.Seq.{getD-take, getD-drop, length-take-le, take-all}
 use borrow.Author.Tests.{eq-eqb}
@@ -96,7 +96,10 @@ module _ (s : Numbers) (log index current : List ℕ) (c : Catalogue) (areas : L
       let f = audited-facts st ok in
       other (record { log-legal = f .log-legal; last-is = f .last-is; live-is = f .live-is; table-is = f .table-is }, f .files-are))
 
-  module _ (sixteen : room ≤ 16) where
+  module _ (stop : ℕ) (at-room : stop ≡ room) (few : stop ≤ 16) where
+    sixteen : room ≤ 16
+    sixteen = rw at-room at few
+
     room-lent : room ≤ length catalogue
     room-lent = omega (arith, lent, capacity-entries (s .limit) (c .lent) (length areas))
 
@@ -106,8 +109,8 @@ module _ (s : Numbers) (log index current : List ℕ) (c : Catalogue) (areas : L
     rest-get : (i : ℕ) → s .files + i < room → getD (drop (s .files) (take room catalogue)) i noEntry ≡ getD (c .entries) (s .files + i) noEntry
     rest-get i l = getD-drop (s .files) (take room catalogue) i noEntry ∙ getD-take room catalogue (s .files + i) noEntry l ∙ sym (holds .entries-are (s .files + i) l)
 
-    pub denied-rest : (ZeroEntries (s .files) room (c .entries) → ⊥) → false ≡ auditOf st
-    denied-rest other = denied st (λ ok. other (blank (audited-facts st ok)))
+    pub denied-rest : (ZeroEntries (s .files) stop (c .entries) → ⊥) → false ≡ auditOf st
+    denied-rest other = denied st (λ ok. other (rw at-room (blank (audited-facts st ok))))
       where
         blank : AuditedFacts st → ZeroEntries (s .files) room (c .entries)
         blank f i low high =
@@ -143,12 +146,12 @@ module _ (s : Numbers) (log index current : List ℕ) (c : Catalogue) (areas : L
 
     -- the walk's answer is the audit's, once the rest stands
     pub answered : (r : Bool) → fits s log (length index) (length current) (c .lent) (length areas) ≡ true
-        → ZeroEntries (s .files) room (c .entries)
+        → ZeroEntries (s .files) stop (c .entries)
         → same (withTree (s .order) (pageTimes (s .page) (records (drop 24 log) (s .records))) index) index ≡ true
         → Decides r (LogStands s (drop 24 log) current × FilesFrom (s .limit) (s .records) (s .last) (s .files) (drop 24 log) areas catalogue 0 0)
         → r ≡ auditOf st
     unfolding Decides
-    answered true sound blank tree stands = granted sound blank tree stands
+    answered true sound blank tree stands = granted sound (rw at-room at blank) tree stands
     answered false sound blank tree stands = denied-log stands
 
   pub files-loaded : s .files ≤ 16 → s .files ≤ c .lent → Loaded catalogue (s .files) c

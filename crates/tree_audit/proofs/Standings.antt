@@ -1,34 +1,30 @@
 -- An index holds the packed tree just where each leaf, and each node that a leaf opened, holds its times. Assumes nothing.
-use Prim.Native.Nat.{ℕ, zero, suc, _+_, _-_, _*_, _/_, _%_, _^_, _≤_, _<_, zero-le, suc-le-suc}
-use mathlib.Core.Path.{_≡_, refl, sym, ap, _∙_}
-use mathlib.Core.Logic.{_⊎_, ⊎-elim}
-use mathlib.Core.List.{List, [], _∷_}
-use mathlib.Core.Bool.{Bool, true, false, cond}
+use Prim.Native.Nat.{ℕ, zero, suc, _+_, _-_, _*_, _/_, _%_, _^_, _≤_, _<_}
+use mathlib.Core.Path.{_≡_, sym, ap, _∙_}
+use mathlib.Core.List.{List}
+use mathlib.Core.Bool.{Bool, true, false}
 use native.Mathlib.Omega.{arith}
-use native.Mathlib.Nat.{le-refl, le-trans, mul-le-mul-right, mul-le-mul-left, zero-mul, zero-mod, mul-div-cancel, one-le-pow}
-use native.Mathlib.Numerals.{add-one}
-use lib.ListN.{length, getD, take, drop}
-use lib.Dec.{ltb}
-use borrow.Author.Tests.{eqb-true, eq-eqb, ne-eqb, lt-ltb, le-ltb}
+use native.Mathlib.Nat.{le-refl, mul-le-mul-right, mul-le-mul-left, zero-mod, mul-div-cancel}
+use lib.ListN.{length, getD}
+use borrow.Author.Tests.{eq-eqb, ne-eqb}
 use Rattle.codec.specs.Parts.{same}
 use Rattle.codec.proofs.PartLaws.{length-part}
-use Rattle.codec.proofs.Sameness.{same-true, same-of-equal, same-of-unequal}
+use Rattle.codec.proofs.Sameness.{same-of-equal, same-of-unequal}
 use Rattle.model.specs.Records.{records}
-use Rattle.model.specs.Shape.{opens, valuation, cofactor, leavesOf, leafWords, innerWords}
-use Rattle.model.specs.Numbering.{nodes, opened, leafNode, innerNode, nodeWord}
-use Rattle.model.specs.Pages.{pageTimes, pagesOf, indexNeed}
+use Rattle.model.specs.Shape.{opens, valuation, cofactor, leavesOf}
+use Rattle.model.specs.Numbering.{nodes, leafNode, nodeWord}
+use Rattle.model.specs.Pages.{pageTimes, pagesOf}
 use Rattle.model.specs.Tree.{indexWords, withTree, Packed}
 use Rattle.model.proofs.RecordLaws.{length-records}
-use Rattle.model.proofs.PageLaws.{length-page-times, records-of-page}
+use Rattle.model.proofs.PageLaws.{length-page-times}
 use Rattle.tree.specs.Levels.{innersOver, fullNodes}
-use Rattle.tree.proofs.Orders.{le-or-lt}
-use Rattle.tree.proofs.Numbers.{leaf-in, nodes-zero, not-opened}
+use Rattle.tree.proofs.Numbers.{leaf-in}
 use Rattle.tree.proofs.Runs.{run-step, over-step}
 use Rattle.tree.proofs.Valuations.{restored}
-use Rattle.tree.proofs.Allotments.{inner-node, opens-opened}
+use Rattle.tree.proofs.Allotments.{inner-node}
 use Rattle.tree.proofs.Packings.{ByLeaf, by-leaf, packed, leaf-length, inner-length}
 use Rattle.tree.proofs.Written.{with-packed, packed-with}
-use Rattle.tree_audit.specs.Times.{Decides, TimesAt}
+use Rattle.tree_audit.specs.Times.{Decides}
 use Rattle.tree_audit.specs.Stands.{spanOf, firstOf, Stands, Auditable, Openable}
 use Rattle.tree_audit.proofs.Words.{same-words, word-at, leaf-word, inner-word, leaf-is, leaf-not}
 

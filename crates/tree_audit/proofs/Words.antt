@@ -1,29 +1,26 @@
 -- The words of each node of the packed tree over page times, as times of records, and an index that holds them.
 -- Assumes nothing.
-use Prim.Native.Nat.{ℕ, zero, suc, _+_, _-_, _*_, _/_, _^_, _≤_, _<_, zero-le, suc-le-suc}
+use Prim.Native.Nat.{ℕ, zero, suc, _+_, _-_, _*_, _^_, _≤_, _<_, zero-le, suc-le-suc}
 use mathlib.Core.Path.{_≡_, refl, sym, ap, _∙_}
-use mathlib.Core.Logic.{_⊎_, ⊎-elim}
+use mathlib.Core.Logic.{⊎-elim}
 use mathlib.Core.List.{List, [], _∷_, map}
-use mathlib.Core.Bool.{Bool, true, false, cond}
+use mathlib.Core.Bool.{true}
 use native.Mathlib.Omega.{arith}
-use native.Mathlib.Nat.{le-refl, mul-le-mul-right, mul-le-mul-left, lt-of-mul-lt-mul-right, mul-assoc, mul-comm, one-le-pow, le-of-suc-le-suc}
+use native.Mathlib.Nat.{mul-le-mul-right, mul-le-mul-left, one-le-pow}
 use lib.ListN.{length, getD, take, drop, length-append, length-map, List·getD-eq-default}
 use lib.Seq.{getD-take, getD-drop}
-use lib.Dec.{ltb}
-use borrow.Author.Tests.{ltb-true, ltb-false, lt-ltb, le-ltb}
-use Rattle.codec.specs.Parts.{part}
-use Rattle.codec.proofs.PartLaws.{length-part}
+use borrow.Author.Tests.{lt-ltb, le-ltb}
 use Rattle.model.specs.Records.{noRecord, records, recordIn}
 use Rattle.model.specs.Shape.{opens, valuation, leavesOf, leafWords, innerWords, separator, takers}
-use Rattle.model.specs.Pages.{pageTimes, pagesOf}
+use Rattle.model.specs.Pages.{pageTimes}
 use Rattle.model.proofs.RecordLaws.{length-records, getD-records}
 use Rattle.model.proofs.PageLaws.{page-time-at, page-of-records, records-of-page}
 use Rattle.tree.proofs.Orders.{le-or-lt}
 use Rattle.tree.proofs.Hosts.{start, valuation-at}
 use Rattle.tree.proofs.Takers.{opens-start, takers-get, takers-length, takers-more}
 use Rattle.tree.proofs.Leaves.{leaf-there, leaves-low}
-use Rattle.tree.proofs.Packings.{getD-padded, getD-map, leaf-length, inner-length}
-use Rattle.tree_audit.specs.Times.{Decides, timeIn, TimesAt}
+use Rattle.tree.proofs.Packings.{getD-padded, getD-map}
+use Rattle.tree_audit.specs.Times.{timeIn, TimesAt}
 
 -- ---- lists word by word
 

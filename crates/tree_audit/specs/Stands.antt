@@ -1,15 +1,12 @@
 -- The packed tree over the page times of n records b, leaf by leaf: what has to stand where leaf m was needed.
--- `Audits` is what contracts cite. Assumes nothing.
+-- `Auditable`, `Openable` and `spanOf` are what contracts cite. Assumes nothing.
 use Prim.Native.Nat.{ℕ, _+_, _-_, _*_, _^_, _≤_, _<_}
 use mathlib.Core.Path.{_≡_}
 use mathlib.Core.List.{List}
 use mathlib.Core.Bool.{true, cond}
-use lib.ListN.{length, take, drop}
-use Rattle.model.specs.Records.{records}
 use Rattle.model.specs.Shape.{opens, valuation}
-use Rattle.model.specs.Numbering.{nodes, leafNode, innerNode, nodeWord}
-use Rattle.model.specs.Pages.{pageTimes, indexNeed}
-use Rattle.model.specs.Shape.{leavesOf, leafWords, innerWords}
+use Rattle.model.specs.Numbering.{nodes, leafNode, nodeWord}
+use Rattle.model.specs.Pages.{indexNeed}
 use Rattle.tree_audit.specs.Times.{TimesAt}
 
 -- how many leaves further on each separator of the node is that leaf m opens; 0 where it opens none

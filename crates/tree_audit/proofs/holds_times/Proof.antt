@@ -4,7 +4,6 @@ use Prim.Native.Nat.{_≤_, _+_, _*_, _-_}
 use mathlib.Core.Path.{_≡_, sym, ap, _∙_}
 use native.Mathlib.Omega.{arith}
 use native.Mathlib.Nat.{mul-le-mul-right}
-use borrow.Author.Needs.{needs}
 use Rattle.tree_audit.specs.Times.{Decides, timeIn, TimesAt}
 use Rattle.tree_audit.proofs.Words.{times-none, times-more}
 use Rattle.tree_audit.proofs.holds_times.Statement.{statement}
@@ -58,10 +57,14 @@ loop-again : tie.Need-loop-again Inv-loop μ-loop
 loop-again c =
     let t = c .before in
     let l = t .before .before .before in
-    let a = l .before .before .before .args in
-    (omega arith, (omega arith,
-    times-more (a .b .now) (a .first) (a .step) (a .stop) (a .words .now) (a .at) (l .loop .i) (l .loop .inv .1 .1)
-    (c .if1 .left ∙ t .time-in .ensures ∙ ap (timeIn (a .b .now) (a .stop)) (l .loop .inv .1 .0))))
+    let a = l .before .before .before .args in (
+      omega arith,
+      (
+        omega arith,
+        times-more (a .b .now) (a .first) (a .step) (a .stop) (a .words .now) (a .at) (l .loop .i) (l .loop .inv .1 .1)
+            (c .if1 .left ∙ t .time-in .ensures ∙ ap (timeIn (a .b .now) (a .stop)) (l .loop .inv .1 .0)),
+      ),
+    )
 
 returns-2 : tie.Need-returns-2 Inv-loop μ-loop
 unfolding Decides

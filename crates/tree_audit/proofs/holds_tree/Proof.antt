@@ -1,11 +1,10 @@
 -- `tree_audit::holds_tree` meets its contract. Invariant: the leaves before leaf m, and the nodes that they opened, stand.
 -- Measure: the records that are left. Assumes nothing.
-use Prim.Native.Nat.{_≤_, _+_, _*_, _-_}
-use mathlib.Core.Path.{_≡_, sym, ap, _∙_}
+use Prim.Native.Nat.{_≤_, _+_, _-_}
+use mathlib.Core.Path.{_∙_}
 use native.Mathlib.Omega.{arith}
 use native.Mathlib.Nat.{mul-le-mul}
 use lib.ListN.{length}
-use borrow.Author.Needs.{needs}
 use Rattle.tree_audit.specs.Times.{Decides}
 use Rattle.tree_audit.proofs.Standings.{tree-held, tree-not-held}
 use Rattle.tree_audit.proofs.Walks.{Walked, walked-none, walked-all, walked-few, walked-openable, walked-readable, walked-leaf, walked-not-opened, walked-not-leaf, walked-next}
