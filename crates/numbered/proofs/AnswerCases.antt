@@ -11,13 +11,15 @@ use Rattle.model.specs.declared.Side.the-variants.{Earlier, Later}
 use Rattle.model.specs.declared.Place.the-variants.{Empty, Area, Current}
 use Rattle.model.specs.declared.TableAnswer.the-variants as table
 use Rattle.model.specs.declared.ViewAnswer.the-variants as view
+use Rattle.model.specs.declared.NetChangeAnswer.the-variants as net
 use Rattle.model.specs.Answers.{refusal}
 use Rattle.answers.specs.Question.{questionOf}
 use Rattle.numbered.specs.declared.YkChange.{YkChange}
 use Rattle.numbered.specs.declared.YkPosition.{YkPosition}
 use Rattle.numbered.specs.declared.YkTable.{YkTable}
 use Rattle.numbered.specs.declared.YkView.{YkView}
-use Rattle.numbered.specs.Answers.{numberOf, recordIn, recordOf, changeOut, positionOut, laterOf, tableOut, placeOut, areaOut, spanOf, viewOut}
+use Rattle.numbered.specs.declared.YkNetChange.{YkNetChange}
+use Rattle.numbered.specs.Answers.{numberOf, recordIn, recordOf, changeOut, positionOut, laterOf, tableOut, placeOut, areaOut, spanOf, viewOut, netChangeOut}
 
 -- every refusal's number, as 01 numbers its questions
 abbrev refusals : List Refusal
@@ -65,3 +67,11 @@ in-table = refl
 empty : viewOut 4 100 32 (view.Outset Empty 0 Earlier 5) ≡ record { question = 0; place = 0; area = 0; rows = 0; later = 0; distance = 5; start = 0; length = 0 }
 unfolding viewOut spanOf placeOut areaOut laterOf
 empty = refl
+
+netted : netChangeOut (net.Entries 19) ≡ record { question = 0; entries = 19 }
+unfolding netChangeOut
+netted = refl
+
+late : netChangeOut (net.Refused TimeAfterLast) ≡ record { question = 12; entries = 0 }
+unfolding netChangeOut questionOf refusal
+late = refl

@@ -1,5 +1,5 @@
 -- The part that a view's answer names in numbers is the part that the call hands back. Assumes nothing.
-use Prim.Native.Nat.{ℕ, _-_, _*_, _≤_, min}
+use Prim.Native.Nat.{ℕ, _+_, _-_, _*_, _≤_, min}
 use mathlib.Core.Path.{_≡_, refl, sym, ap, _∙_}
 use mathlib.Core.List.{List, []}
 use mathlib.Core.Bool.{Bool, true, false, cond}
@@ -51,3 +51,12 @@ span-part R areas current (Outset Empty rows side distance) = refl
 span-part R areas current (Outset (Area i) rows side distance) = sym (part-cut (8 * R * i) (8 * rows) areas)
 span-part R areas current (Outset Current rows side distance) = sym (take-cut (8 * rows) current)
 span-part R areas current (Refused why) = refl
+
+-- on any memory it lies within its region
+pub span-within : (R : ℕ) (areas current : List ℕ) (answer : ViewAnswer)
+    → let r = viewOut R (length areas) (length current) answer in r .start + r .length ≤ length (cond (eqb (r .place) 1) areas current)
+unfolding viewOut spanOf placeOut
+span-within R areas current (Outset Empty rows side distance) = omega arith
+span-within R areas current (Outset (Area i) rows side distance) = omega arith
+span-within R areas current (Outset Current rows side distance) = omega arith
+span-within R areas current (Refused why) = omega arith

@@ -102,4 +102,4 @@ netChangeOut (net.Refused why) = record { question = numberOf why; entries = 0 }
 
 -- 1 for yes
 abbrev pub yesOut : Bool → ℕ
-yesOut yes = cond yes 1 0
+yesOut b = cond b 1 0

@@ -1,6 +1,6 @@
 -- What a call with its answer in numbers promises: the answer is that form of one that keeps the promise of the call, for the
 -- memory that is lent. The promises are those of model. Assumes nothing.
-use Prim.Native.Nat.{ℕ}
+use Prim.Native.Nat.{ℕ, _+_, _≤_}
 use mathlib.Core.Path.{_≡_}
 use mathlib.Core.List.{List}
 use mathlib.Core.Bool.{cond}
@@ -55,13 +55,14 @@ pub record TableCrossed (r : YkTable) (st : State) (t : ℕ) (out out' : List �
   pub kept : TablePromise st t out (tableOutcome answer) out'
 
 -- the part lies in the areas where the place is an area, else in the current table
-abbrev pub partOf : YkView → Memory → List ℕ
-partOf r m = part (r .start) (r .length) (cond (eqb (r .place) 1) (m .areas) (m .table))
+abbrev pub regionOf : YkView → Memory → List ℕ
+regionOf r m = cond (eqb (r .place) 1) (m .areas) (m .table)
 
 pub record ViewCrossed (r : YkView) (st : State) (t : ℕ) : Type 0 where
   pub answer : ViewAnswer
   pub is : r ≡ viewOut (st .numbers .limit) (length (st .memory .areas)) (length (st .memory .table)) answer
-  pub kept : ViewPromise st t (viewOutcome answer) (partOf r (st .memory))
+  pub within : r .start + r .length ≤ length (regionOf r (st .memory))
+  pub kept : ViewPromise st t (viewOutcome answer) (part (r .start) (r .length) (regionOf r (st .memory)))
 
 pub record NetChangeCrossed (r : YkNetChange) (st : State) (a b : ℕ) (out work out' work' : List ℕ) : Type 0 where
   pub answer : NetChangeAnswer

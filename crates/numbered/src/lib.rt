@@ -184,7 +184,7 @@ fn table_out(answer: TableAnswer) -> YkTable
 
 // ---- the calls
 
-// The entries to be cleared are never more than are lent.
+// What a start answered, in numbers.
 fn begin(x: Started) -> Begun
     ensures { λ r. ⌜ (r .change ≡ changeOut (x .numbers) (x .verdict)) × (r .clears ≡ x .clears) ⌝ }
 {
@@ -193,6 +193,13 @@ fn begin(x: Started) -> Begun
         change: change_out(x.numbers, verdict),
         clears: x.clears,
     }
+}
+
+pub fn begun_change(r: Begun) -> YkChange
+    ensures { λ x. ⌜ x ≡ r .change ⌝ }
+{
+    let change = r.change;
+    change
 }
 
 pub fn fresh(
@@ -457,7 +464,7 @@ pub fn net_change<'a>(
     net_change_out(comparing::net_change(s, log, index, current, c, areas, a, b, out, work))
 }
 
-fn refiled(x: Filed) -> Refiled
+fn refile(x: Filed) -> Refiled
     ensures { λ r. ⌜ (r .change ≡ changeOut (x .numbers) (x .verdict)) × (r .catalogue ≡ x .catalogue) ⌝ }
 {
     let verdict = x.verdict;
@@ -466,6 +473,13 @@ fn refiled(x: Filed) -> Refiled
         change: change_out(x.numbers, verdict),
         catalogue,
     }
+}
+
+pub fn refiled_change(r: Refiled) -> YkChange
+    ensures { λ x. ⌜ x ≡ r .change ⌝ }
+{
+    let change = r.change;
+    change
 }
 
 pub fn keep(
@@ -482,7 +496,7 @@ pub fn keep(
         (memoryOf (now (log .entry)) (now (index .entry)) (now (current .entry)) (writtenBack catalogue (r .catalogue)) (now (areas .exit)))
         (keepOf (storeOf s (now (log .entry)) (now (index .entry)) (now (current .entry)) catalogue (now (areas .entry))) t)) ⌝ }
 {
-    refiled(filing::keep(s, log, index, current, c, areas, t))
+    refile(filing::keep(s, log, index, current, c, areas, t))
 }
 
 pub fn drop(
@@ -499,7 +513,7 @@ pub fn drop(
         (memoryOf (now (log .entry)) (now (index .entry)) (now (current .entry)) (writtenBack catalogue (r .catalogue)) (now (areas .exit)))
         (dropOf (storeOf s (now (log .entry)) (now (index .entry)) (now (current .entry)) catalogue (now (areas .entry))) t)) ⌝ }
 {
-    refiled(filing::drop(s, log, index, current, c, areas, t))
+    refile(filing::drop(s, log, index, current, c, areas, t))
 }
 
 // 1 for yes, 0 for no.

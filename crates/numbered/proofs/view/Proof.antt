@@ -1,5 +1,5 @@
 -- `numbered::view` meets its contract. Assumes nothing.
-use Rattle.numbered.proofs.Spans.{span-part}
+use Rattle.numbered.proofs.Spans.{span-part, span-within}
 use borrow.Author.Needs.{needs}
 use Rattle.numbered.proofs.view.Statement.{statement}
 use Rattle.numbered.proofs.view.Tie as tie
@@ -19,6 +19,7 @@ returns c catalogue e =
     record {
       answer = v .view .result;
       is = c .view-out .ensures;
+      within = rw (c .view-out .ensures) (span-within (a .s .limit) (a .areas .now) (a .current .now) (v .view .result));
       kept =
           rw (c .view-out .ensures, ← span-part (a .s .limit) (a .areas .now) (a .current .now) (v .view .result)) (v .view .ensures catalogue e);
     }

@@ -1,0 +1,20 @@
+-- `numbered::keep` meets its contract. Assumes nothing.
+use borrow.Author.Needs.{needs}
+use Rattle.numbered.proofs.Crossings.{files-crossed}
+use Rattle.numbered.proofs.keep.Statement.{statement}
+use Rattle.numbered.proofs.keep.Tie as tie
+
+keep-requires : tie.Need-keep-requires
+keep-requires c κs = search needs
+
+refile-requires : tie.Need-refile-requires
+refile-requires c κs = search needs
+
+same-length : tie.Need-same-length
+same-length c = search needs
+
+returns : tie.Need-returns
+returns c catalogue e = files-crossed _ _ (c .refile .result) (c .before .before .before .keep .result) _ _ _ catalogue _ _ (c .refile .ensures) (c .before .before .before .keep .ensures catalogue e)
+
+pub keep-spec : {M : Type 1} → statement M
+keep-spec = tie.close (tie.spec keep-requires refile-requires same-length returns)
