@@ -32,6 +32,7 @@ abbrev pub kept : State → ℕ → State
 kept st t =
     state (withCount (st .numbers) (st .numbers .files + 1)) (withFiles (fileIn (fileAt st t) (filesOf st)) (st .memory))
 
+-- one file more and no byte past it, and on audited memory that store
 pub record Keeping (st : State) (t : ℕ) (st' : State) : Type 0 where
   pub framed : FilesFrame (st .numbers .files + 1) st st'
   pub audited : (Audited st → st' ≡ kept st t)

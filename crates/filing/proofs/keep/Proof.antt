@@ -74,7 +74,8 @@ returns-5 c catalogue same =
     let t1 = e2 .before .before in
     let q = t1 .before in
     let a = q .before .before .before .before .before .args in
-    keep-full (a .s) (a .log .now) (a .index .now) (a .current .now) catalogue (a .areas .now) (a .c) same (sym (q .is-sound .ensures .0) ∙ t1 .if1 .taken) (q .is-sound .ensures .1 (t1 .if1 .taken)) (a .t) (e2 .if2 .left) (e3 .if3 .left) (sym (k .is-kept .ensures) ∙ e4 .if4 .left) (rw (full .capacity .ensures .0) at (c .if5 .left))
+    let none = rw (full .capacity .ensures .0) at (c .if5 .left) in
+    keep-full (a .s) (a .log .now) (a .index .now) (a .current .now) catalogue (a .areas .now) (a .c) same (sym (q .is-sound .ensures .0) ∙ t1 .if1 .taken) (q .is-sound .ensures .1 (t1 .if1 .taken)) (a .t) (e2 .if2 .left) (e3 .if3 .left) (sym (k .is-kept .ensures) ∙ e4 .if4 .left) (omega (arith, none))
 
 keep-file-requires : tie.Need-keep-file-requires
 keep-file-requires c κs =
