@@ -3,16 +3,25 @@
  * All memory is the caller's, and lent for one call at a time. Nothing is kept between calls but what is
  * in it and in the numbers, which pass by value: give each call the numbers that the last one answered.
  *
- * region  element  lengths that suffice
- * log     byte     24 for the header and 24 for each record, at most 65,536 of them
- * index   word     order - 1 for each node of the packed tree; 11 says that one more is needed
- * table   byte     8 x limit: the current table
- * times   word     one for each count file, up to 16; rows beside it has as many (the shorter counts)
- * areas   byte     8 x limit for each count file
- * out     byte     8 x limit: the table that yk_table works out
+ * region   element   lengths that suffice
+ * log      byte      24 for the header and 24 for each record, at most 65,536 of them
+ * index    word      order - 1 for each node of the packed tree; 11 says that one more is needed
+ * table    byte      8 x limit: the current table
+ * entries  yk_entry  one for each count file, up to 16: the catalogue
+ * areas    byte      8 x limit for each count file
+ * out      byte      8 x limit for yk_table; 24 x limit for yk_net_change
+ * work     byte      16 x limit
  *
  * A length is a number of elements. A pointer is never null, not even with length 0, and is aligned for its
  * element; regions of one call do not overlap. What lies past the lengths that suffice stays as it was.
+ *
+ * A table is its rows, ascending by article, and zeros after them to 8 x limit bytes. A row is article and
+ * count, 4 bytes each, little-endian.
+ *
+ * A count file is the table of one time, kept so that tables near it are found sooner. The store holds as many
+ * as there are entries and whole areas for, at most 16: the file of entry i has area i, times ascend, and the
+ * entries behind the last file are zero. The files kept change no table and no net change, only where a table
+ * is worked out from.
  *
  * A refused call answers the number of the first question answered no, and leaves all memory and the numbers
  * as they were. But a refused yk_fresh or yk_open answers numbers that are all zero; and at 17 yk_open has
@@ -42,11 +51,18 @@ enum yk_question {
     YK_LOG_FULL = 10,        /* no space for the record, or for an update's two */
     YK_INDEX_FULL = 11,      /* no space for the nodes then needed */
     YK_TIME_AFTER_LAST = 12, /* the time asked for is after the last */
-    YK_OUTPUT_SHORT = 13,    /* the output is too short */
+    YK_OUTPUT_SHORT = 13,    /* the output or the workspace is too short */
     YK_NOT_TO_KEEP = 14,     /* time 0, or kept already */
     YK_CATALOGUE_FULL = 15,  /* no space for a count file */
     YK_NOT_KEPT = 16,        /* no count file of that time */
     YK_WRONG_RECORD = 17     /* the log is not legal; `record` says where */
+};
+
+/* Where the rows are that a table is worked out from. */
+enum yk_place {
+    YK_EMPTY = 0,  /* time 0: no rows, the empty part at the front of the current table */
+    YK_AREA = 1,   /* the area of a count file */
+    YK_CURRENT = 2 /* the current table */
 };
 
 /* The store's numbers. */
@@ -60,12 +76,18 @@ typedef struct yk_numbers {
     uint32_t files;   /* count files held */
 } yk_numbers;
 
+/* One entry of the catalogue. */
+typedef struct yk_entry {
+    uint64_t time; /* time of the count file */
+    uint32_t rows; /* rows of its table */
+} yk_entry;
+
 /* What a call that may change the store answers. */
 typedef struct yk_change {
     yk_numbers numbers; /* for the next call */
     uint8_t question;   /* an enum yk_question */
-    uint32_t record;    /* at 17 a record such that the log is wrong up to it, or the number of records where
-                           only the header's last time is wrong; else 0 */
+    uint32_t record;    /* at 17 the first wrong record, or the number of records where only the header's last
+                           time is wrong; else 0 */
 } yk_change;
 
 typedef struct yk_position_answer {
@@ -80,44 +102,108 @@ typedef struct yk_table_answer {
     uint32_t distance; /* how many pages that table is away */
 } yk_table_answer;
 
+typedef struct yk_view_answer {
+    uint8_t question;  /* an enum yk_question; all else is 0 where refused */
+    uint8_t place;     /* an enum yk_place */
+    uint32_t area;     /* at YK_AREA the number of the area, from 0; else 0 */
+    uint32_t rows;     /* rows there */
+    uint8_t later;     /* 1 if they are those of a time at or after the one asked for, else 0 */
+    uint32_t distance; /* how many pages that time is away */
+    size_t start;      /* the part they fill: its first byte in areas (YK_AREA) or in table */
+    size_t length;     /* and its bytes, 8 for each row */
+} yk_view_answer;
+
+typedef struct yk_net_change_answer {
+    uint8_t question; /* an enum yk_question */
+    uint32_t entries; /* entries of the net change, 0 where refused */
+} yk_net_change_answer;
+
+/* A part of lent memory. */
+typedef struct yk_part {
+    const uint8_t *bytes;
+    size_t length;
+} yk_part;
+
 /* Starts an empty store: writes the header, zeroes table and catalogue. Refuses by 2, 3, 4, 5. */
 yk_change yk_fresh(uint16_t order, uint16_t page, uint32_t limit, uint8_t *log, size_t log_length,
-    uint8_t *table, size_t table_length, uint64_t *times, size_t times_length, uint32_t *rows,
-    size_t rows_length, const uint8_t *areas, size_t areas_length);
+    uint8_t *table, size_t table_length, yk_entry *entries, size_t entries_length, const uint8_t *areas,
+    size_t areas_length);
 
 /* Takes up a written log: makes index and table anew, zeroes the catalogue. Refuses by 1 to 5 and 17. */
 yk_change yk_open(const uint8_t *log, size_t log_length, uint64_t *index, size_t index_length, uint8_t *table,
-    size_t table_length, uint64_t *times, size_t times_length, uint32_t *rows, size_t rows_length,
-    const uint8_t *areas, size_t areas_length);
+    size_t table_length, yk_entry *entries, size_t entries_length, const uint8_t *areas, size_t areas_length);
 
-/* Adds an article with a count at a time above the last. Refuses by 1, 6, 7, 9, 10, 11. */
+/* Adds an article with a count at a time above the last: writes header, record, table and the index where a
+ * page begins. Refuses by 1, 6, 7, 9, 10, 11. */
 yk_change yk_insert(yk_numbers numbers, uint8_t *log, size_t log_length, uint64_t *index, size_t index_length,
-    uint8_t *table, size_t table_length, const uint64_t *times, size_t times_length, const uint32_t *rows,
-    size_t rows_length, const uint8_t *areas, size_t areas_length, uint64_t time, uint32_t article,
-    uint32_t count);
+    uint8_t *table, size_t table_length, const yk_entry *entries, size_t entries_length, const uint8_t *areas,
+    size_t areas_length, uint64_t time, uint32_t article, uint32_t count);
 
-/* Removes a present article. Refuses by 1, 6, 8, 10, 11. */
+/* Removes a present article; writes as yk_insert does. Refuses by 1, 6, 8, 10, 11. */
 yk_change yk_delete(yk_numbers numbers, uint8_t *log, size_t log_length, uint64_t *index, size_t index_length,
-    uint8_t *table, size_t table_length, const uint64_t *times, size_t times_length, const uint32_t *rows,
-    size_t rows_length, const uint8_t *areas, size_t areas_length, uint64_t time, uint32_t article);
+    uint8_t *table, size_t table_length, const yk_entry *entries, size_t entries_length, const uint8_t *areas,
+    size_t areas_length, uint64_t time, uint32_t article);
 
-/* Gives a present article another count, or the same: two records. Refuses by 1, 6, 8, 10, 11. */
+/* Gives a present article another count, or the same: two records, a deletion and an insertion. Refuses by
+ * 1, 6, 8, 10, 11. */
 yk_change yk_update(yk_numbers numbers, uint8_t *log, size_t log_length, uint64_t *index, size_t index_length,
-    uint8_t *table, size_t table_length, const uint64_t *times, size_t times_length, const uint32_t *rows,
-    size_t rows_length, const uint8_t *areas, size_t areas_length, uint64_t time, uint32_t article,
-    uint32_t count);
+    uint8_t *table, size_t table_length, const yk_entry *entries, size_t entries_length, const uint8_t *areas,
+    size_t areas_length, uint64_t time, uint32_t article, uint32_t count);
 
-/* The page position of a time. Refuses by 1, 12. */
+/* The page position of a time. Writes nothing. Refuses by 1, 12. */
 yk_position_answer yk_position(yk_numbers numbers, const uint8_t *log, size_t log_length, const uint64_t *index,
-    size_t index_length, const uint8_t *table, size_t table_length, const uint64_t *times, size_t times_length,
-    const uint32_t *rows, size_t rows_length, const uint8_t *areas, size_t areas_length, uint64_t time);
+    size_t index_length, const uint8_t *table, size_t table_length, const yk_entry *entries,
+    size_t entries_length, const uint8_t *areas, size_t areas_length, uint64_t time);
 
-/* The table of a time, into out: rows of article and count, 4 bytes each, little-endian, ascending by
- * article, zeros after them. Refuses by 1, 12, 13. */
+/* The table of a time, into the first 8 x limit bytes of out. Refuses by 1, 12, 13. */
 yk_table_answer yk_table(yk_numbers numbers, const uint8_t *log, size_t log_length, const uint64_t *index,
-    size_t index_length, const uint8_t *table, size_t table_length, const uint64_t *times, size_t times_length,
-    const uint32_t *rows, size_t rows_length, const uint8_t *areas, size_t areas_length, uint64_t time,
-    uint8_t *out, size_t out_length);
+    size_t index_length, const uint8_t *table, size_t table_length, const yk_entry *entries,
+    size_t entries_length, const uint8_t *areas, size_t areas_length, uint64_t time, uint8_t *out,
+    size_t out_length);
+
+/* The rows that the table of a time is worked out from, where they lie: yk_view_part makes a part of the
+ * answer. Writes nothing. Refuses by 1, 12. */
+yk_view_answer yk_view(yk_numbers numbers, const uint8_t *log, size_t log_length, const uint64_t *index,
+    size_t index_length, const uint8_t *table, size_t table_length, const yk_entry *entries,
+    size_t entries_length, const uint8_t *areas, size_t areas_length, uint64_t time);
+
+/* What leads from the table of time a to that of time b, a before or after b, into the first 24 x limit bytes
+ * of out: entries of 12 bytes, and zeros after them. An entry is length 12 and kind (2 insertion, 3 deletion),
+ * 2 bytes each, then article and count, 4 bytes each, little-endian; ascending by article, the deletion of an
+ * article before its insertion. A row that is alike in both tables has none. Work then holds, in its first
+ * 16 x limit bytes, the table of a and the table of b. Refuses by 1, 12, 13. */
+yk_net_change_answer yk_net_change(yk_numbers numbers, const uint8_t *log, size_t log_length,
+    const uint64_t *index, size_t index_length, const uint8_t *table, size_t table_length,
+    const yk_entry *entries, size_t entries_length, const uint8_t *areas, size_t areas_length, uint64_t a,
+    uint64_t b, uint8_t *out, size_t out_length, uint8_t *work, size_t work_length);
+
+/* Keeps the table of a time as a count file: writes its entry and area, and moves the files of later times up
+ * by one. Refuses by 1, 12, 14, 15. */
+yk_change yk_keep(yk_numbers numbers, const uint8_t *log, size_t log_length, const uint64_t *index,
+    size_t index_length, const uint8_t *table, size_t table_length, yk_entry *entries, size_t entries_length,
+    uint8_t *areas, size_t areas_length, uint64_t time);
+
+/* Gives up the count file of a time: moves the files of later times down by one, and zeroes the entry and the
+ * area that the last one leaves. Refuses by 1, 16. */
+yk_change yk_drop(yk_numbers numbers, const uint8_t *log, size_t log_length, const uint64_t *index,
+    size_t index_length, const uint8_t *table, size_t table_length, yk_entry *entries, size_t entries_length,
+    uint8_t *areas, size_t areas_length, uint64_t time);
+
+/* 1 if the numbers and the lent memory are such as accepted calls from a fresh or opened store leave, else 0.
+ * Writes nothing and refuses nothing, whatever the memory holds. The other calls but yk_fresh and yk_open
+ * answer as promised where it says 1; elsewhere they stay within the lent memory. */
+uint8_t yk_audit(yk_numbers numbers, const uint8_t *log, size_t log_length, const uint64_t *index,
+    size_t index_length, const uint8_t *table, size_t table_length, const yk_entry *entries,
+    size_t entries_length, const uint8_t *areas, size_t areas_length);
+
+/* The rows that a view answered, as a part of the areas or the table it was asked of; empty where it was
+ * refused. The part holds until a call writes there. */
+static inline yk_part yk_view_part(yk_view_answer view, const uint8_t *areas, const uint8_t *table) {
+    yk_part part;
+    part.bytes = (view.place == YK_AREA ? areas : table) + view.start;
+    part.length = view.length;
+    return part;
+}
 
 #ifdef __cplusplus
 }

@@ -1,5 +1,5 @@
-/* 01's log by hand, built by calls from C: its bytes, its index words and the refusals that 01 names beside it.
- * The argument is the written log, samples/log-by-hand.log. */
+/* 01's log by hand, built by calls from C: its bytes, its index words, every call, every field of every answer
+ * and every question. The argument is the written log, samples/log-by-hand.log. */
 #include <stdbool.h>
 #include <stdio.h>
 #include <stdlib.h>
@@ -7,19 +7,21 @@
 
 #include "yokefennel.h"
 
-/* Eight records, and space for one more. */
+/* Eight records and space for one more; four count files and some bytes that are no whole area. */
 enum { LOG = 24 + 24 * 8, LENT_LOG = LOG + 24, INDEX = 8, LIMIT = 4, TABLE = 8 * LIMIT };
+enum { FILES = 4, ENTRIES = FILES + 1, AREAS = FILES * TABLE + 5, OUT = 24 * LIMIT, WORK = 16 * LIMIT };
 
-/* A store and all that is lent to it. It keeps no count file. */
+/* All that is lent, and the store's numbers. */
 static struct {
-    yk_numbers numbers;
     uint8_t log[LENT_LOG];
     uint64_t index[INDEX];
     uint8_t table[TABLE];
-    uint64_t times[1];
-    uint32_t rows[1];
-    uint8_t areas[1];
-} store;
+    yk_entry entries[ENTRIES];
+    uint8_t areas[AREAS];
+} lent;
+static yk_numbers numbers;
+
+#define STORE lent.log, LENT_LOG, lent.index, INDEX, lent.table, TABLE, lent.entries, ENTRIES, lent.areas, AREAS
 
 static void require(bool holds, const char *what) {
     if (!holds) {
@@ -28,55 +30,114 @@ static void require(bool holds, const char *what) {
     }
 }
 
+/* ---- the calls, on the lent memory */
+
 /* Takes up the numbers of an answer; the question answered no. */
 static int taken(yk_change answer) {
-    store.numbers = answer.numbers;
+    numbers = answer.numbers;
+    require(answer.record == 0, "a record only at 17");
     return answer.question;
 }
 
-static int fresh(void) {
-    return taken(yk_fresh(3, 2, LIMIT, store.log, LENT_LOG, store.table, TABLE, store.times, 0, store.rows, 0,
-        store.areas, 0));
+static int fresh(uint16_t order, uint16_t page, uint32_t limit) {
+    return taken(yk_fresh(order, page, limit, lent.log, LENT_LOG, lent.table, TABLE, lent.entries, ENTRIES,
+        lent.areas, AREAS));
 }
 
 static int insert(uint64_t time, uint32_t article, uint32_t count) {
-    return taken(yk_insert(store.numbers, store.log, LENT_LOG, store.index, INDEX, store.table, TABLE,
-        store.times, 0, store.rows, 0, store.areas, 0, time, article, count));
+    return taken(yk_insert(numbers, STORE, time, article, count));
 }
 
 static int delete_article(uint64_t time, uint32_t article) {
-    return taken(yk_delete(store.numbers, store.log, LENT_LOG, store.index, INDEX, store.table, TABLE,
-        store.times, 0, store.rows, 0, store.areas, 0, time, article));
+    return taken(yk_delete(numbers, STORE, time, article));
 }
 
 static int update(uint64_t time, uint32_t article, uint32_t count) {
-    return taken(yk_update(store.numbers, store.log, LENT_LOG, store.index, INDEX, store.table, TABLE,
-        store.times, 0, store.rows, 0, store.areas, 0, time, article, count));
+    return taken(yk_update(numbers, STORE, time, article, count));
 }
 
-static int open_log(void) {
-    return taken(yk_open(store.log, LENT_LOG, store.index, INDEX, store.table, TABLE, store.times, 0,
-        store.rows, 0, store.areas, 0));
+static int keep(uint64_t time) {
+    return taken(yk_keep(numbers, STORE, time));
 }
 
-static yk_position_answer position(uint64_t time) {
-    return yk_position(store.numbers, store.log, LENT_LOG, store.index, INDEX, store.table, TABLE, store.times,
-        0, store.rows, 0, store.areas, 0, time);
+static int drop(uint64_t time) {
+    return taken(yk_drop(numbers, STORE, time));
 }
 
 static yk_table_answer table(uint64_t time, uint8_t out[TABLE]) {
-    return yk_table(store.numbers, store.log, LENT_LOG, store.index, INDEX, store.table, TABLE, store.times, 0,
-        store.rows, 0, store.areas, 0, time, out, TABLE);
+    return yk_table(numbers, STORE, time, out, TABLE);
 }
 
+static bool audit(void) {
+    uint8_t answer = yk_audit(numbers, STORE);
+    require(answer <= 1, "an audit answers 1 or 0");
+    return answer == 1;
+}
+
+/* ---- what is right */
+
+static bool numbers_are(int order, int page, uint32_t limit, uint32_t records, uint64_t last, uint32_t live,
+    uint32_t files) {
+    return numbers.order == order && numbers.page == page && numbers.limit == limit
+        && numbers.records == records && numbers.last == last && numbers.live == live
+        && numbers.files == files;
+}
+
+static bool entry_is(int i, uint64_t time, uint32_t rows) {
+    return lent.entries[i].time == time && lent.entries[i].rows == rows;
+}
+
+static bool zero(const uint8_t *bytes, size_t length) {
+    for (size_t i = 0; i < length; i++) {
+        if (bytes[i] != 0) {
+            return false;
+        }
+    }
+    return true;
+}
+
+/* 01's tables, and its net change from 20 to 45. */
+static const uint8_t TABLE_10[TABLE] = {7, 0, 0, 0, 50};
+static const uint8_t TABLE_20[TABLE] = {3, 0, 0, 0, 12, 0, 0, 0, 7, 0, 0, 0, 50};
+static const uint8_t TABLE_30[TABLE] = {3, 0, 0, 0, 12, 0, 0, 0, 7, 0, 0, 0, 44};
+static const uint8_t TABLE_45[TABLE] = {7, 0, 0, 0, 44};
+static const uint8_t TABLE_60[TABLE] = {7, 0, 0, 0, 44, 0, 0, 0, 9, 0, 0, 0, 6};
+static const uint8_t FROM_20_TO_45[OUT] = {12, 0, 3, 0, 3, 0, 0, 0, 12, 0, 0, 0, 12, 0, 3, 0, 7, 0, 0, 0, 50, 0,
+    0, 0, 12, 0, 2, 0, 7, 0, 0, 0, 44};
+
+/* 01's numbers of the questions. */
+static void compare_constants(void) {
+    static const int constants[][2] = {{YK_ACCEPTED, 0}, {YK_HEADER, 1}, {YK_ORDER, 2}, {YK_PAGE_SIZE, 3},
+        {YK_ROW_LIMIT, 4}, {YK_MEMORY, 5}, {YK_TIME_NOT_ABOVE, 6}, {YK_ARTICLE_PRESENT, 7},
+        {YK_ARTICLE_ABSENT, 8}, {YK_ROWS_FULL, 9}, {YK_LOG_FULL, 10}, {YK_INDEX_FULL, 11},
+        {YK_TIME_AFTER_LAST, 12}, {YK_OUTPUT_SHORT, 13}, {YK_NOT_TO_KEEP, 14}, {YK_CATALOGUE_FULL, 15},
+        {YK_NOT_KEPT, 16}, {YK_WRONG_RECORD, 17}, {YK_EMPTY, 0}, {YK_AREA, 1}, {YK_CURRENT, 2}};
+    for (size_t i = 0; i < sizeof constants / sizeof constants[0]; i++) {
+        require(constants[i][0] == constants[i][1], "a constant has 01's number");
+    }
+}
+
+/* ---- 01's log */
+
 static void build(void) {
-    require(fresh() == YK_ACCEPTED, "fresh store");
-    require(insert(10, 7, 50) == YK_ACCEPTED, "insert 7 at 10");
-    require(insert(20, 3, 12) == YK_ACCEPTED, "insert 3 at 20");
-    require(update(30, 7, 44) == YK_ACCEPTED, "update 7 at 30");
-    require(delete_article(40, 3) == YK_ACCEPTED, "delete 3 at 40");
-    require(insert(50, 9, 5) == YK_ACCEPTED, "insert 9 at 50");
-    require(update(60, 9, 6) == YK_ACCEPTED, "update 9 at 60");
+    require(fresh(3, 2, LIMIT) == YK_ACCEPTED && numbers_are(3, 2, 4, 0, 0, 0, 0), "fresh store");
+    for (int i = 0; i < FILES; i++) {
+        require(entry_is(i, 0, 0), "a fresh store zeroes the catalogue");
+    }
+    require(audit(), "audit of a fresh store");
+    require(insert(10, 7, 50) == YK_ACCEPTED && numbers_are(3, 2, 4, 1, 10, 1, 0), "insert 7 at 10");
+    require(insert(20, 3, 12) == YK_ACCEPTED && numbers_are(3, 2, 4, 2, 20, 2, 0), "insert 3 at 20");
+    require(update(30, 7, 44) == YK_ACCEPTED && numbers_are(3, 2, 4, 4, 30, 2, 0), "update 7 at 30");
+    require(delete_article(40, 3) == YK_ACCEPTED && numbers_are(3, 2, 4, 5, 40, 1, 0), "delete 3 at 40");
+    require(insert(50, 9, 5) == YK_ACCEPTED && numbers_are(3, 2, 4, 6, 50, 2, 0), "insert 9 at 50");
+    require(update(60, 9, 6) == YK_ACCEPTED && numbers_are(3, 2, 4, 8, 60, 2, 0), "update 9 at 60");
+    require(memcmp(lent.table, TABLE_60, TABLE) == 0, "the current table");
+    require(audit(), "audit of the log");
+}
+
+static void compare_index(void) {
+    static const uint64_t words[6] = {10, 30, 30, 0, 40, 60};
+    require(memcmp(lent.index, words, sizeof words) == 0, "index words");
 }
 
 static void compare_log(const char *name) {
@@ -86,59 +147,244 @@ static void compare_log(const char *name) {
     size_t length = fread(written, 1, sizeof written, file);
     fclose(file);
     require(length == LOG, "the written log has eight records");
-    require(memcmp(store.log, written, LOG) == 0, "the log is the written one");
+    require(memcmp(lent.log, written, LOG) == 0, "the log is the written one");
 }
 
-static void compare_index(void) {
-    static const uint64_t words[6] = {10, 30, 30, 0, 40, 60};
-    require(memcmp(store.index, words, sizeof words) == 0, "index words");
-}
-
-/* P cases of 01 and its listing, through C. */
-static void ask(void) {
+static void compare_positions(void) {
     static const uint64_t asked[6] = {0, 29, 30, 35, 40, 60};
     static const uint32_t pages[6] = {0, 0, 1, 1, 2, 3};
-    static const uint8_t rows[TABLE] = {7, 0, 0, 0, 44};
-    uint8_t out[TABLE];
     for (int i = 0; i < 6; i++) {
-        yk_position_answer answer = position(asked[i]);
+        yk_position_answer answer = yk_position(numbers, STORE, asked[i]);
         require(answer.question == YK_ACCEPTED && answer.page == pages[i], "page position");
     }
-    memset(out, 0xA5, TABLE);
-    yk_table_answer answer = table(45, out);
-    require(answer.question == YK_ACCEPTED && answer.rows == 1, "the table of 45 has one row");
-    require(answer.later == 1 && answer.distance == 1, "the table of 45 starts from the current one");
-    require(memcmp(out, rows, TABLE) == 0, "the table of 45");
-    require(position(61).question == YK_TIME_AFTER_LAST, "position of 61");
-    require(table(61, out).question == YK_TIME_AFTER_LAST, "table of 61");
 }
 
-static void refuse(void) {
-    yk_numbers numbers = store.numbers;
-    require(update(61, 9, 7) == YK_LOG_FULL, "an update with one record's space");
-    require(store.numbers.records == numbers.records && store.numbers.last == numbers.last
-            && store.numbers.live == numbers.live && store.numbers.limit == numbers.limit,
-        "a refusal leaves the numbers");
-    require(open_log() == YK_ACCEPTED, "opening what was written");
-    require(store.numbers.live == 2 && store.numbers.last == 60, "the opened store");
-    compare_index();
-    require(fresh() == YK_ACCEPTED, "fresh store again");
+static bool table_is(uint64_t time, const uint8_t *bytes, uint32_t rows, int later, uint32_t distance) {
+    uint8_t out[TABLE + 1];
+    memset(out, 0xA5, sizeof out);
+    yk_table_answer answer = table(time, out);
+    return answer.question == YK_ACCEPTED && answer.rows == rows && answer.later == later
+        && answer.distance == distance && memcmp(out, bytes, TABLE) == 0 && out[TABLE] == 0xA5;
+}
+
+static void compare_net_changes(void) {
+    uint8_t out[OUT + 1], work[WORK + 1];
+    memset(out, 0xA5, sizeof out);
+    memset(work, 0xA5, sizeof work);
+    yk_net_change_answer answer = yk_net_change(numbers, STORE, 20, 45, out, OUT, work, WORK);
+    require(answer.question == YK_ACCEPTED && answer.entries == 3, "net change 20 to 45 has three entries");
+    require(memcmp(out, FROM_20_TO_45, OUT) == 0, "net change 20 to 45");
+    require(memcmp(work, TABLE_20, TABLE) == 0 && memcmp(work + TABLE, TABLE_45, TABLE) == 0,
+        "workspace of 20 and 45");
+    answer = yk_net_change(numbers, STORE, 30, 35, out, OUT, work, WORK);
+    require(answer.question == YK_ACCEPTED && answer.entries == 0 && zero(out, OUT), "net change 30 to 35");
+    require(memcmp(work, TABLE_30, TABLE) == 0 && memcmp(work + TABLE, TABLE_30, TABLE) == 0,
+        "workspace of 30 and 35");
+    require(out[OUT] == 0xA5 && work[WORK] == 0xA5, "nothing is written past output and workspace");
+}
+
+/* ---- count files and views */
+
+/* All fields of a view, and the part that it makes. */
+static bool view_is(uint64_t time, int place, uint32_t area, uint32_t rows, int later, uint32_t distance,
+    const uint8_t *part) {
+    yk_view_answer view = yk_view(numbers, STORE, time);
+    const uint8_t *region = place == 1 ? lent.areas : lent.table;
+    yk_part found = yk_view_part(view, lent.areas, lent.table);
+    return view.question == YK_ACCEPTED && view.place == place && view.area == area && view.rows == rows
+        && view.later == later && view.distance == distance && view.start == (size_t)(part - region)
+        && view.length == 8 * rows && found.bytes == part && found.length == 8 * rows;
+}
+
+static void keep_one(void) {
+    require(view_is(0, YK_EMPTY, 0, 0, 0, 0, lent.table), "view of time 0");
+    require(keep(20) == YK_ACCEPTED && numbers_are(3, 2, 4, 8, 60, 2, 1), "keep 20");
+    require(entry_is(0, 20, 2) && entry_is(1, 0, 0), "the entry of 20");
+    require(memcmp(lent.areas, TABLE_20, TABLE) == 0, "the area of 20");
+    require(table_is(45, TABLE_45, 1, 1, 1), "with 20 kept, 45 starts from the current table");
+    require(view_is(45, YK_CURRENT, 0, 2, 1, 1, lent.table), "view of 45 with 20 kept");
+    require(audit(), "audit with 20 kept");
+    require(drop(20) == YK_ACCEPTED && numbers_are(3, 2, 4, 8, 60, 2, 0), "drop 20");
+    require(entry_is(0, 0, 0) && zero(lent.areas, TABLE), "the entry and the area of 20 are zero");
+
+    require(keep(40) == YK_ACCEPTED, "keep 40");
+    require(table_is(30, TABLE_30, 2, 0, 1), "with only 40 kept, 30 starts from time 0");
+    require(view_is(30, YK_EMPTY, 0, 0, 0, 1, lent.table), "view of 30 with only 40 kept");
+    require(drop(40) == YK_ACCEPTED, "drop 40");
+}
+
+static void keep_several(void) {
+    require(keep(20) == YK_ACCEPTED && keep(5) == YK_ACCEPTED, "keep 20, then 5");
+    require(keep(10) == YK_ACCEPTED && keep(6) == YK_ACCEPTED, "keep 10, then 6");
+    require(numbers_are(3, 2, 4, 8, 60, 2, 4), "four files");
+    require(entry_is(0, 5, 0) && entry_is(1, 6, 0) && entry_is(2, 10, 1) && entry_is(3, 20, 2),
+        "entries ascend by time");
+    require(zero(lent.areas, 2 * TABLE) && memcmp(lent.areas + 2 * TABLE, TABLE_10, TABLE) == 0
+            && memcmp(lent.areas + 3 * TABLE, TABLE_20, TABLE) == 0,
+        "area i is the table of entry i");
+    require(view_is(30, YK_AREA, 3, 2, 0, 1, lent.areas + 3 * TABLE), "view of 30 with 20 kept");
+    require(audit(), "audit with four files");
+
+    require(drop(6) == YK_ACCEPTED && numbers_are(3, 2, 4, 8, 60, 2, 3), "drop 6");
+    require(entry_is(0, 5, 0) && entry_is(1, 10, 1) && entry_is(2, 20, 2) && entry_is(3, 0, 0),
+        "the later entries move down");
+    require(memcmp(lent.areas + TABLE, TABLE_10, TABLE) == 0
+            && memcmp(lent.areas + 2 * TABLE, TABLE_20, TABLE) == 0 && zero(lent.areas + 3 * TABLE, TABLE),
+        "the later areas move down, and the last one is zero");
+    require(view_is(30, YK_AREA, 2, 2, 0, 1, lent.areas + 2 * TABLE), "view of 30 after drop 6");
+    require(audit(), "audit with three files");
+    require(keep(45) == YK_ACCEPTED && entry_is(3, 45, 1), "keep 45");
+}
+
+/* One byte or number of the store damaged, seen by the audit, and mended. */
+static void damage(void) {
+    uint8_t *bytes[4] = {lent.log + 24 + 20, (uint8_t *)lent.index, lent.table + 4, lent.areas + 3 * TABLE};
+    for (int i = 0; i < 4; i++) {
+        *bytes[i] ^= 1;
+        require(!audit(), "audit of a damaged byte");
+        *bytes[i] ^= 1;
+        require(audit(), "audit of the mended byte");
+    }
+    lent.entries[3].rows++;
+    require(!audit(), "audit of a damaged entry");
+    lent.entries[3].rows--;
+    numbers.files--;
+    require(!audit(), "audit of damaged numbers");
+    numbers.files++;
+    lent.areas[AREAS - 1] ^= 1;
+    require(audit(), "audit of bytes past the whole areas");
+}
+
+/* ---- every question; the store holds 5, 10, 20 and 45 */
+
+/* A refusal that leaves memory and numbers as they were. */
+#define REFUSED(call, by, what)                                                                                \
+    do {                                                                                                       \
+        memcpy(&before, &lent, sizeof lent);                                                                   \
+        require((call) == (by), what);                                                                         \
+        require(memcmp(&before, &lent, sizeof lent) == 0, "a refusal leaves the memory");                      \
+        require(numbers_are(3, 2, 4, 8, 60, 2, 4), "a refusal leaves the numbers");                            \
+    } while (0)
+
+static void refuse_later_calls(void) {
+    static uint8_t before[sizeof lent];
+    static uint8_t out[OUT], work[WORK];
+    yk_numbers wrong = numbers;
+    wrong.records--;
+    REFUSED(yk_position(wrong, STORE, 0).question, YK_HEADER, "position with wrong numbers");
+    REFUSED(yk_view(wrong, STORE, 0).question, YK_HEADER, "view with wrong numbers");
+    REFUSED(yk_keep(wrong, STORE, 30).question, YK_HEADER, "keep with wrong numbers");
+    require(yk_keep(wrong, STORE, 30).numbers.records == 7, "a refusal answers the numbers it was given");
+
+    REFUSED(insert(60, 1, 1), YK_TIME_NOT_ABOVE, "insert at the last time");
+    REFUSED(insert(61, 7, 1), YK_ARTICLE_PRESENT, "insert what is present");
+    REFUSED(delete_article(61, 3), YK_ARTICLE_ABSENT, "delete what is absent");
+    REFUSED(update(61, 3, 1), YK_ARTICLE_ABSENT, "update what is absent");
+    REFUSED(update(61, 9, 7), YK_LOG_FULL, "an update with one record's space");
+    REFUSED(taken(yk_delete(numbers, lent.log, LENT_LOG, lent.index, 6, lent.table, TABLE, lent.entries,
+                ENTRIES, lent.areas, AREAS, 61, 9)),
+        YK_INDEX_FULL, "a delete without space for its node");
+
+    REFUSED(yk_position(numbers, STORE, 61).question, YK_TIME_AFTER_LAST, "position of 61");
+    REFUSED(yk_view(numbers, STORE, 61).question, YK_TIME_AFTER_LAST, "view of 61");
+    REFUSED(table(61, out).question, YK_TIME_AFTER_LAST, "table of 61");
+    REFUSED(yk_net_change(numbers, STORE, 20, 61, out, OUT, work, WORK).question, YK_TIME_AFTER_LAST,
+        "net change to 61");
+    REFUSED(keep(61), YK_TIME_AFTER_LAST, "keep 61");
+    REFUSED(yk_table(numbers, STORE, 20, out, TABLE - 1).question, YK_OUTPUT_SHORT, "a short output");
+    REFUSED(yk_net_change(numbers, STORE, 20, 45, out, OUT - 1, work, WORK).question, YK_OUTPUT_SHORT,
+        "a net change's short output");
+    REFUSED(yk_net_change(numbers, STORE, 20, 45, out, OUT, work, WORK - 1).question, YK_OUTPUT_SHORT,
+        "a short workspace");
+    require(zero(out, OUT) && zero(work, WORK), "a refusal leaves output and workspace");
+
+    REFUSED(keep(0), YK_NOT_TO_KEEP, "keep 0");
+    REFUSED(keep(45), YK_NOT_TO_KEEP, "keep 45 again");
+    REFUSED(keep(30), YK_CATALOGUE_FULL, "keep a fifth file");
+    REFUSED(drop(30), YK_NOT_KEPT, "drop 30");
+}
+
+/* Where a refusal has zeros beside the question, and where a view's part is empty. */
+static void refused_answers(void) {
+    uint8_t out[TABLE];
+    yk_position_answer position = yk_position(numbers, STORE, 61);
+    yk_table_answer rows = table(61, out);
+    yk_view_answer view = yk_view(numbers, STORE, 61);
+    yk_part part = yk_view_part(view, lent.areas, lent.table);
+    require(position.page == 0 && rows.rows == 0 && rows.later == 0 && rows.distance == 0, "refused: zeros");
+    require(view.place == 0 && view.area == 0 && view.rows == 0 && view.later == 0 && view.distance == 0
+            && view.start == 0 && view.length == 0 && part.bytes == lent.table && part.length == 0,
+        "a refused view is empty");
+}
+
+/* A ninth record: numbers that all differ. */
+static void delete_9(void) {
+    require(delete_article(70, 9) == YK_ACCEPTED && numbers_are(3, 2, 4, 9, 70, 1, 4), "delete 9 at 70");
+    require(drop(5) == YK_ACCEPTED && drop(10) == YK_ACCEPTED && drop(45) == YK_ACCEPTED, "drop 5, 10 and 45");
+    require(drop(20) == YK_ACCEPTED && numbers_are(3, 2, 4, 9, 70, 1, 0), "drop 20");
+}
+
+/* ---- opening */
+
+static void open_again(void) {
+    require(taken(yk_open(STORE)) == YK_ACCEPTED && numbers_are(3, 2, 4, 9, 70, 1, 0), "opening the log");
+    require(audit(), "audit of the opened store");
+    require(taken(yk_open(lent.log, LENT_LOG, lent.index, 7, lent.table, TABLE, lent.entries, ENTRIES,
+                lent.areas, AREAS))
+            == YK_MEMORY,
+        "opening with a short index");
+    require(numbers_are(0, 0, 0, 0, 0, 0, 0), "a refused opening answers zeros");
+
+    lent.log[24 + 24 * 4 + 20] ^= 1;
+    yk_change answer = yk_open(STORE);
+    require(answer.question == YK_WRONG_RECORD && answer.record == 4, "opening with record 4 wrong");
+    numbers = answer.numbers;
+    require(numbers_are(0, 0, 0, 0, 0, 0, 0), "numbers at 17 are zero");
+    require(zero((const uint8_t *)lent.index, 8 * INDEX) && zero(lent.table, TABLE), "so are index and table");
+    lent.log[24 + 24 * 4 + 20] ^= 1;
+    lent.log[16] ^= 1;
+    answer = yk_open(STORE);
+    require(answer.question == YK_WRONG_RECORD && answer.record == 9, "opening with the last time wrong");
+    lent.log[16] ^= 1;
+    lent.log[2] = 2;
+    require(taken(yk_open(STORE)) == YK_HEADER, "opening without a header");
+}
+
+static void start_anew(void) {
+    require(fresh(1, 2, LIMIT) == YK_ORDER, "order 1");
+    require(fresh(3, 65, LIMIT) == YK_PAGE_SIZE, "65 records per page");
+    require(fresh(3, 2, 1025) == YK_ROW_LIMIT, "row limit 1,025");
+    require(fresh(3, 2, LIMIT + 1) == YK_MEMORY, "a short table");
+    require(numbers_are(0, 0, 0, 0, 0, 0, 0) && !audit(), "a refused start answers zeros");
+    require(fresh(3, 2, LIMIT) == YK_ACCEPTED, "fresh store again");
     for (uint32_t k = 1; k <= LIMIT; k++) {
         require(insert(k, k, k) == YK_ACCEPTED, "four live rows");
     }
-    require(insert(5, 5, 5) == YK_ROWS_FULL, "a fifth live row");
+    require(insert(5, 5, 5) == YK_ROWS_FULL && numbers_are(3, 2, 4, 4, 4, 4, 0), "a fifth live row");
 }
 
 int main(int many, char **arguments) {
     require(many == 2, "usage: worked_log LOG");
-    memset(store.log, 0xA5, LENT_LOG);
-    memset(store.index, 0xA5, sizeof store.index);
-    memset(store.table, 0xA5, TABLE);
+    memset(&lent, 0xA5, sizeof lent);
+    compare_constants();
     build();
     compare_log(arguments[1]);
     compare_index();
-    ask();
-    refuse();
+    compare_positions();
+    require(table_is(20, TABLE_20, 2, 0, 0), "the table of 20");
+    require(table_is(30, TABLE_30, 2, 0, 1), "the table of 30");
+    require(table_is(45, TABLE_45, 1, 1, 1), "the table of 45");
+    compare_net_changes();
+    keep_one();
+    keep_several();
+    damage();
+    refuse_later_calls();
+    refused_answers();
+    require(entry_is(FILES, 0xA5A5A5A5A5A5A5A5, 0xA5A5A5A5), "entries past the capacity stay");
+    compare_index();
+    delete_9();
+    open_again();
+    start_anew();
     puts("worked log: ok");
     return 0;
 }

@@ -1,4 +1,4 @@
--- Files in order, each the table of its time: a file more, a file fewer, and the zero entries behind them. Assumes nothing.
+-- Files in order, each the table of its time: a file more, those that a test lets stay, and the zero entries behind them. Assumes nothing.
 use Prim.Native.Nat.{ℕ, zero, suc, _+_, _-_, _≤_, _<_}
 use mathlib.Core.Path.{_≡_, refl, sym, ap, _∙_}
 use mathlib.Core.List.{List, [], _∷_, _++_, append-assoc, map}
@@ -13,7 +13,7 @@ use Rattle.codec.proofs.PartLaws.{take-put-past}
 use Rattle.model.specs.declared.Entry.{Entry}
 use Rattle.model.specs.Records.{Rec}
 use Rattle.model.specs.Memory.{noEntry}
-use Rattle.model.specs.Files.{File, noFile, entryOf, isKept, fileIn, otherFiles}
+use Rattle.model.specs.Files.{File, noFile, entryOf, isKept, fileIn, staying}
 use Rattle.model.specs.Facts.{FileIs, FilesAre}
 use Rattle.claims.proofs.FileLists.{map-append}
 
@@ -56,24 +56,27 @@ module _ (R last : ℕ) (rs : List Rec) where
               by-test true e = ltb-true _ _ e
               by-test false e = let m : a ≤ b = ltb-false _ _ e in absurd (n (omega arith))
 
-  -- ---- a file fewer
+  -- ---- the files that a test lets stay
 
-  pub files-without : (t before b' : ℕ) (fs : List File) → b' ≤ before → FilesAre R last rs before fs → FilesAre R last rs b' (otherFiles t fs)
-  unfolding FilesAre otherFiles
-  files-without t before b' [] l h = tt
-  files-without t before b' (x ∷ xs) l h = by (eqb (x .entry .time) t) (files-without t (x .entry .time) b' xs (omega (arith, h .0 .later)) (h .1)) (files-without t (x .entry .time) (x .entry .time) xs (omega arith) (h .1))
+  pub files-staying : (stays : Entry → Bool) (before b' : ℕ) (fs : List File) → b' ≤ before → FilesAre R last rs before fs
+      → FilesAre R last rs b' (staying stays fs)
+  unfolding FilesAre staying
+  files-staying stays before b' [] l h = tt
+  files-staying stays before b' (x ∷ xs) l h =
+      by (stays (x .entry)) (files-staying stays (x .entry .time) (x .entry .time) xs (omega arith) (h .1))
+      (files-staying stays (x .entry .time) b' xs (omega (arith, h .0 .later)) (h .1))
     where
-      by : (q : Bool) → FilesAre R last rs b' (otherFiles t xs) → FilesAre R last rs (x .entry .time) (otherFiles t xs)
-          → FilesAre R last rs b' (cond q (otherFiles t xs) (x ∷ otherFiles t xs))
-      by true a b = a
-      by false a b = (from-later (h .0) (omega (arith, h .0 .later)), b)
+      by : (q : Bool) → FilesAre R last rs (x .entry .time) (staying stays xs) → FilesAre R last rs b' (staying stays xs)
+          → FilesAre R last rs b' (cond q (x ∷ staying stays xs) (staying stays xs))
+      by true a b = (from-later (h .0) (omega (arith, h .0 .later)), a)
+      by false a b = b
 
-pub length-other-files : (t : ℕ) (fs : List File) → length (otherFiles t fs) ≤ length fs
-unfolding otherFiles
-length-other-files t [] = omega arith
-length-other-files t (x ∷ xs) = by (length-other-files t xs) (eqb (x .entry .time) t)
+pub length-staying : (stays : Entry → Bool) (fs : List File) → length (staying stays fs) ≤ length fs
+unfolding staying
+length-staying stays [] = omega arith
+length-staying stays (x ∷ xs) = by (length-staying stays xs) (stays (x .entry))
   where
-    by : length (otherFiles t xs) ≤ length xs → (q : Bool) → length (cond q (otherFiles t xs) (x ∷ otherFiles t xs)) ≤ suc (length xs)
+    by : length (staying stays xs) ≤ length xs → (q : Bool) → length (cond q (x ∷ staying stays xs) (staying stays xs)) ≤ suc (length xs)
     by ih true = omega arith
     by ih false = omega arith
 

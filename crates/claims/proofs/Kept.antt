@@ -1,8 +1,8 @@
--- Keep and drop of a state in order leave one in order. Assumes nothing.
+-- Keep and drop of a state in order leave one in order, with a file more or with those that stay by a test. Assumes nothing.
 use Prim.Native.Nat.{ℕ, zero, suc, _+_, _-_, _*_, _≤_, _<_}
 use mathlib.Core.Path.{_≡_, refl, _∙_}
 use mathlib.Core.List.{List, [], _∷_, _++_, append-nil, map}
-use mathlib.Core.Bool.{false, not, _&&_}
+use mathlib.Core.Bool.{Bool, false, not, _&&_}
 use native.Mathlib.Omega.{arith}
 use native.Mathlib.Nat.{min-le-left, le-trans, le-div-iff-mul-le, mul-comm, mul-le-mul-right}
 use lib.ListN.{length, take, replicate, length-append, length-map, length-replicate}
@@ -11,16 +11,17 @@ use lib.Dec.{leb, ltb, eqb}
 use borrow.Author.Tests.{leb-true, ltb-true, eqb-false, not-true}
 use Rattle.codec.proofs.Numbers.{are-bytes-put}
 use Rattle.codec.proofs.PartLaws.{length-put}
+use Rattle.model.specs.declared.Entry.{Entry}
 use Rattle.model.specs.Answers.{question, firstNo}
 use Rattle.model.specs.Records.{headerBytes}
 use Rattle.model.specs.Memory.{State, state, logOf, sound, capacity, capacityOf}
-use Rattle.model.specs.Files.{File, filesOf, noFile, areasBytes, entryOf, withFiles, withCount, isKept, keepQuestions, fileIn, fileAt, keepOf, otherFiles, dropOf}
+use Rattle.model.specs.Files.{File, filesOf, noFile, areasBytes, entryOf, withFiles, withCount, isKept, keepQuestions, fileIn, fileAt, keepOf, staying, reduced, notOf, dropQuestions, dropOf}
 use Rattle.model.proofs.Compare.{and-left, and-right}
 use Rattle.model.specs.Facts.{FileIs, FilesAre, AuditedFacts, InOrder}
 use Rattle.model.proofs.AuditLaws.{audited-facts, audited-of-facts, capacity-entries, capacity-areas}
 use Rattle.claims.proofs.Regions.{asked, entries-put, entries-of-lendable}
 use Rattle.claims.proofs.FileLists.{FilesFit, files-fit, files-fit-append, no-files-fit, entries-of-files, bytes-of-files, length-areas, length-files-in, files-back}
-use Rattle.claims.proofs.FilesKept.{length-file-in, files-with, files-without, length-other-files, rest-back}
+use Rattle.claims.proofs.FilesKept.{length-file-in, files-with, files-staying, length-staying, rest-back}
 
 pub capacity-few : (R entries bytes : ℕ) → capacity R entries bytes ≤ 16
 unfolding capacity
@@ -82,6 +83,9 @@ module _ (st : State) (o : InOrder st) (gs : List File) (j : ℕ)
   slots-same : capacityOf (st .numbers .limit) (other .memory) ≡ capacityOf (st .numbers .limit) (st .memory)
   slots-same = rw (entries-long, areas-long)
 
+  pub files-now : filesOf other ≡ gs
+  files-now = files-back R gs (replicate j (noFile R)) (st .memory .catalogue) (st .memory .areas) gs-fit
+
   other-facts : AuditedFacts other
   unfolding headerBytes
   other-facts =
@@ -106,7 +110,7 @@ module _ (st : State) (o : InOrder st) (gs : List File) (j : ℕ)
         live-is = facts .live-is;
         table-is = facts .table-is;
         index-is = facts .index-is;
-        files-are = rw (files-back R gs (replicate j (noFile R)) (st .memory .catalogue) (st .memory .areas) gs-fit) are;
+        files-are = rw files-now are;
         rest-is = rw slots-same (rest-back R (st .memory .catalogue) (capacityOf R (st .memory)) (st .numbers .files) gs j low high (facts .rest-is));
       }
 
@@ -170,37 +174,65 @@ keep-asked st t q =
     above zero h = absurd (h refl)
     above (suc k) h = omega arith
 
+-- an accepted keep of it: the state, and the files that it holds
+module _ (st : State) (o : InOrder st) (t : ℕ) (h : KeepAsked st t) where
+  abbrev files : List File
+  files = fileIn (fileAt st t) (filesOf st)
+
+  abbrev kept : State
+  kept = state (withCount (st .numbers) (st .numbers .files + 1)) (withFiles files (st .memory))
+
+  one-more : length files ≡ st .numbers .files + 1
+  one-more = length-file-in (fileAt st t) (filesOf st) ∙ omega (arith, length-files st (audited-facts st (o .audited)))
+
+  files-are : FilesAre (st .numbers .limit) (st .numbers .last) (logOf st) 0 files
+  files-are =
+      files-with (st .numbers .limit) (st .numbers .last) (logOf st) (fileAt st t) 0 (filesOf st) (file-at-is st t 0 (h .positive) (h .held)) (h .not-kept)
+      (audited-facts st (o .audited) .files-are)
+
+  pub kept-in-order : InOrder kept
+  kept-in-order =
+      rw (append-nil files, one-more) at (files-in-order st o files 0 files-are (omega (arith, one-more)) (omega (arith, one-more, h .room)))
+
+  pub kept-files : filesOf kept ≡ files
+  kept-files = rw (append-nil files, one-more) at (files-now st o files 0 files-are (omega (arith, one-more)) (omega (arith, one-more, h .room)))
+
 pub keep-audited : (st : State) (t : ℕ) → InOrder st → InOrder (keepOf st t .state)
 unfolding keepOf
 keep-audited st t o = by (firstNo (keepQuestions st t)) refl
   where
     by : (k : ℕ) → firstNo (keepQuestions st t) ≡ k → InOrder (keepOf st t .state)
-    by zero q =
-        let h = keep-asked st t q in
-        let f = audited-facts st (o .audited) in
-        let R = st .numbers .limit in
-        let fs = filesOf st in
-        let gs = fileIn (fileAt st t) fs in
-        let n : length gs ≡ st .numbers .files + 1 = length-file-in (fileAt st t) fs ∙ omega (arith, length-files st f) in
-        let are : FilesAre R (st .numbers .last) (logOf st) 0 gs =
-        files-with R (st .numbers .last) (logOf st) (fileAt st t) 0 fs (file-at-is st t 0 (h .positive) (h .held)) (h .not-kept) (f .files-are) in
-        rw q (rw (append-nil gs, n) at (files-in-order st o gs 0 are (omega arith) (omega (arith, h .room))))
+    by zero q = rw q (kept-in-order st o t (keep-asked st t q))
     by (suc k) q = rw q o
 
 -- ---- drop
 
+-- whatever the test
+module _ (stays : Entry → Bool) (st : State) (o : InOrder st) where
+  abbrev rest : List File
+  rest = staying stays (filesOf st)
+
+  facts-now : AuditedFacts st
+  facts-now = audited-facts st (o .audited)
+
+  no-more : length rest ≤ st .numbers .files
+  no-more = omega (arith, length-staying stays (filesOf st), length-files st facts-now)
+
+  rest-are : FilesAre (st .numbers .limit) (st .numbers .last) (logOf st) 0 rest
+  rest-are = files-staying (st .numbers .limit) (st .numbers .last) (logOf st) stays 0 0 (filesOf st) (omega arith) (facts-now .files-are)
+
+  pub reduced-in-order : InOrder (reduced stays st)
+  reduced-in-order =
+      files-in-order st o rest (st .numbers .files - length rest) rest-are (omega (arith, no-more)) (omega (arith, no-more, facts-now .limits .files-few))
+
+  pub reduced-files : filesOf (reduced stays st) ≡ rest
+  reduced-files =
+      files-now st o rest (st .numbers .files - length rest) rest-are (omega (arith, no-more)) (omega (arith, no-more, facts-now .limits .files-few))
+
 pub drop-audited : (st : State) (t : ℕ) → InOrder st → InOrder (dropOf st t .state)
 unfolding dropOf
-drop-audited st t o = by (firstNo (question 1 (sound st) ∷ question 16 (isKept t (filesOf st)) ∷ [])) refl
+drop-audited st t o = by (firstNo (dropQuestions st t)) refl
   where
-    by : (k : ℕ) → firstNo (question 1 (sound st) ∷ question 16 (isKept t (filesOf st)) ∷ []) ≡ k → InOrder (dropOf st t .state)
-    by zero q =
-        let f = audited-facts st (o .audited) in
-        let R = st .numbers .limit in
-        let fs = filesOf st in
-        let gs = otherFiles t fs in
-        let less : length gs ≤ st .numbers .files = omega (arith, length-other-files t fs, length-files st f) in
-        rw q
-        (files-in-order st o gs (st .numbers .files - length gs) (files-without R (st .numbers .last) (logOf st) t 0 0 fs (omega arith) (f .files-are))
-        (omega arith) (omega (arith, f .limits .files-few)))
+    by : (k : ℕ) → firstNo (dropQuestions st t) ≡ k → InOrder (dropOf st t .state)
+    by zero q = rw q (reduced-in-order (notOf t) st o)
     by (suc k) q = rw q o

@@ -16,4 +16,6 @@ pub mod Refused
 pub mod NetChanges
 pub mod Outsets
 pub mod SameLogs
+pub mod FilesHeld
 pub mod ThirdDemands
+pub mod Made

@@ -1,25 +1,40 @@
 -- The outset that an audited state uses (demand 3), for a table and for a view: it is a held table, its distance is the one
 -- reported, and no held table is nearer. Assumes nothing.
-use Prim.Native.Nat.{ℕ, _*_, _≤_}
+use Prim.Native.Nat.{ℕ, _*_, _≤_, _<_}
 use mathlib.Core.Path.{_≡_, refl}
+use mathlib.Core.Logic.{inl, inr}
 use mathlib.Core.List.{List, [], List·Memᴰ}
 use mathlib.Core.Bool.{Bool, true, false, cond}
+use native.Mathlib.Omega.{arith}
 use lib.ListN.{length}
-use lib.Dec.{ltb}
-use borrow.Author.Tests.{le-leb}
+use lib.Dec.{leb, ltb}
+use borrow.Author.Tests.{leb-true, leb-false, le-leb}
 use Rattle.model.specs.declared.Held.{Held}
 use Rattle.model.specs.declared.Side.the-variants.{Earlier, Later}
 use Rattle.model.specs.Answers.{answers, firstNo}
 use Rattle.model.specs.Memory.{State, keysOf}
-use Rattle.model.specs.Outset.{held, filesHeld, currentTable, measure, distance, chosen, chooseBy, earlierFor, laterFor, outsetFor}
+use Rattle.model.specs.Outset.{held, filesHeld, currentTable, apart, measure, distance, chosen, chooseBy, earlierFor, laterFor, outsetFor}
 use Rattle.model.specs.Queries.{timeQuestions, tableSaid, tableOf, viewOf}
 use Rattle.model.specs.Audit.{Audited}
-use Rattle.model.specs.Demands.{candidate, OutsetIsNearest}
+use Rattle.model.specs.Demands.{candidate, Apart, OutsetIsNearest}
 use Rattle.model.proofs.AuditLaws.{audited-sound}
 use Rattle.model.proofs.KeyLaws.{page-position-le}
 use Rattle.catalogue.proofs.Nearest.{nearest, chosen-held}
 use Rattle.claims.proofs.Regions.{answered, none-asked}
-use Rattle.claims.proofs.SecondDemands.{table-accepted}
+use Rattle.claims.proofs.SecondDemands.{table-answered}
+
+-- ---- the larger less the smaller
+
+apart-is : (x y : ℕ) → Apart (apart x y) x y
+apart-is x y = by (leb x y) refl
+  where
+    by : (b : Bool) → leb x y ≡ b → Apart (apart x y) x y
+    by true e = let h : x ≤ y = leb-true _ _ e in inl (omega arith)
+    by false e = let h : y < x = leb-false _ _ e in inr (omega arith)
+
+apart-only : (d x y : ℕ) → Apart d x y → d ≡ apart x y
+apart-only d x y (inl e) = omega arith
+apart-only d x y (inr e) = omega arith
 
 module _ (st : State) (t : ℕ) where
   -- the outset used is the candidate on the side answered
@@ -58,16 +73,15 @@ module _ (st : State) (t : ℕ) where
   pub outset-nearest : t ≤ st .numbers .last → (x : Held) → List·Memᴰ x (held st) → outsetFor st t .distance ≤ distance (measure st) t x
   outset-nearest h = nearest (measure st) measure-rises t (currentTable st) (filesHeld st) h
 
-  pub outset-is-nearest : (out : List ℕ) → Audited st → t ≤ st .numbers .last → 8 * st .numbers .limit ≤ length out → OutsetIsNearest st t out
-  unfolding tableOf
+  pub outset-is-nearest : (out : List ℕ) → Audited st → t ≤ st .numbers .last → 8 * st .numbers .limit ≤ length out → OutsetIsNearest st t (tableOf st t out)
   outset-is-nearest out ok h l =
-      let q = table-accepted st t out ok h l in
+      let x = measure st t in
       record {
         said = tableSaid st t;
-        answered = rw q;
-        reported = rw (← outset-candidate) outset-distance;
+        answered = table-answered st t out ok h l;
         is-held = rw (← outset-candidate) (outset-held h);
-        nearest = outset-nearest h;
+        reported = rw (← outset-candidate, outset-distance) (apart-is x (measure st (outsetFor st t .outset .time)));
+        nearest = λ c d m e. rw (apart-only d x (measure st (c .time)) e) (outset-nearest h c m);
       }
 
   -- ---- the view, which hands back that outset's rows

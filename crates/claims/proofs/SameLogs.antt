@@ -1,23 +1,20 @@
 -- Two states in order with one log have the same numbers of that log, the same records and so the same tables, whichever count
 -- files they hold (demand 3). Assumes nothing.
-use Prim.Native.Nat.{ℕ, _+_, _*_, _≤_}
+use Prim.Native.Nat.{_+_, _*_, _≤_}
 use mathlib.Core.Path.{_≡_, sym, ap, _∙_}
-use mathlib.Core.List.{List}
 use native.Mathlib.Omega.{arith}
 use lib.ListN.{length, drop}
 use Rattle.codec.proofs.PartLaws.{part-of-take}
 use Rattle.model.specs.Records.{recordsOf}
 use Rattle.model.specs.Memory.{State, logOf}
-use Rattle.model.specs.Queries.{rowsAt, tableSaid, tableOf}
+use Rattle.model.specs.Queries.{rowsAt, tableSaid}
 use Rattle.model.specs.Facts.{InOrder}
 use Rattle.model.specs.Demands.{OneLog, OneTable}
 use Rattle.model.proofs.AuditLaws.{audited-facts}
 use Rattle.log.specs.Headers.{HeaderReads}
 use Rattle.log.proofs.HeaderLaws.{header-read, header-fits-of-passable}
 use Rattle.log.proofs.RecordLists.{records-front}
-use Rattle.claims.proofs.Regions.{table-front}
-use Rattle.claims.proofs.FactLaws.{rows-few}
-use Rattle.claims.proofs.SecondDemands.{table-accepted}
+use Rattle.claims.proofs.SecondDemands.{table-answered, table-stands}
 
 -- the log's header reads as the numbers of either state
 module _ (st other : State) (o : InOrder st) (o′ : InOrder other) (one : OneLog st other) where
@@ -49,25 +46,19 @@ module _ (st other : State) (o : InOrder st) (o′ : InOrder other) (one : OneLo
       (part-of-take 24 (24 * n) (24 + 24 * n) (st .memory .log) (other .memory .log) (omega arith) (one .same-bytes))
       ∙ ap (recordsOf (other .memory .log)) (one .same-count)
 
-  pub one-table : (t : ℕ) (out out′ : List ℕ) → t ≤ st .numbers .last → 8 * st .numbers .limit ≤ length out → 8 * st .numbers .limit ≤ length out′
-      → OneTable st other t out out′
-  unfolding tableOf
+  pub one-table : OneTable st other
   one-table t out out′ h l l′ =
       let R = st .numbers .limit in
-      let R′ = other .numbers .limit in
-      let limits : R ≡ R′ = same-limit in
+      let limits : R ≡ other .numbers .limit = same-limit in
       let last : st .numbers .last ≡ other .numbers .last = same-last in
-      let q = table-accepted st t out (o .audited) h l in
-      let q′ = table-accepted other t out′ (o′ .audited) (omega arith) (omega arith) in
+      let held : t ≤ other .numbers .last = omega arith in
+      let long : 8 * other .numbers .limit ≤ length out′ = omega arith in
       let rows : rowsAt st t ≡ rowsAt other t = rw same-records in
       record {
         said = tableSaid st t;
         said' = tableSaid other t;
-        answered = rw q;
-        answered' = rw q′;
+        answered = table-answered st t out (o .audited) h l;
+        answered' = table-answered other t out′ (o′ .audited) held long;
         same-rows = ap length rows;
-        same-bytes =
-            rw (q, q′)
-            (table-front R (rowsAt st t) out (rows-few st (audited-facts st (o .audited)) t)
-            ∙ rw (rows, limits) (sym (table-front R′ (rowsAt other t) out′ (rows-few other (audited-facts other (o′ .audited)) t))));
+        same-bytes = table-stands st t out (o .audited) h l ∙ rw (rows, limits) (sym (table-stands other t out′ (o′ .audited) held long));
       }

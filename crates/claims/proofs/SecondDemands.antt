@@ -1,34 +1,34 @@
 -- The second demand of a state in order: its tables are the report's timeslices, its index is the packed tree, and the
 -- written log opens alike in other memory. Assumes nothing.
 use Prim.Native.Nat.{ℕ, zero, suc, _+_, _-_, _*_, _≤_, _<_}
-use mathlib.Core.Path.{_≡_, sym, ap, _∙_}
+use mathlib.Core.Path.{_≡_, refl, sym, ap, _∙_}
 use mathlib.Core.List.{List, [], _∷_}
 use mathlib.Core.Bool.{true, _&&_}
 use native.Mathlib.Omega.{arith}
 use native.Mathlib.Nat.{zero-mul, le-refl}
 use lib.ListN.{length, take, drop}
-use lib.Seq.{take-add, take-append-le}
+use lib.Seq.{take-add}
 use lib.Dec.{leb}
 use borrow.Author.Tests.{le-leb, eq-eqb}
 use Rattle.codec.proofs.PartLaws.{part-of-take}
-use Rattle.model.specs.Answers.{question, firstNo}
+use Rattle.model.specs.Answers.{answers, question, firstNo}
 use Rattle.model.specs.Settings.{orderInRange, pageSizeInRange, rowLimitInRange, recordsInRange}
 use Rattle.model.specs.Records.{recordsOf, headerOrder, headerPage, headerLimit, headerRecords}
 use Rattle.model.specs.Rows.{tableBytes}
 use Rattle.model.specs.Numbering.{nodeWord}
 use Rattle.model.specs.Tree.{treeOf, nodesOf, indexWords, withTree, Packed}
 use Rattle.model.specs.Memory.{Memory, State, Lendable, logOf, rowsNow, keysOf, sound, logLong, indexLong, tableLong}
-use Rattle.model.specs.Starts.{openQuestions, writtenLog, wellWritten, openedMemory}
-use Rattle.model.specs.Queries.{tableQuestions, tableOf, rowsAt}
+use Rattle.model.specs.Starts.{openQuestions, writtenLog, wellWritten, openedMemory, openedNumbers}
+use Rattle.model.specs.Queries.{tableQuestions, tableSaid, tableOf, rowsAt}
 use Rattle.model.specs.Audit.{Audited}
 use Rattle.model.specs.Demands.{TableIsTimeslice, HoldsLog, OpensAlike, DemandTwo}
-use Rattle.model.proofs.ReportLaws.{asc-timeslice, has-of-slice, slice-of-has}
+use Rattle.model.proofs.ReportLaws.{asc-timeslice}
+use Rattle.model.proofs.ReportedLaws.{has-iff-report}
 use Rattle.tree.proofs.Packings.{tree-length}
 use Rattle.tree.proofs.Written.{with-packed}
 use Rattle.log.specs.Headers.{beginsLog, HeaderReads}
 use Rattle.log.proofs.HeaderLaws.{header-read, header-fits-of-passable}
 use Rattle.log.proofs.RecordLists.{records-front}
-use Rattle.rows.proofs.TableBytes.{length-table-bytes, table-bytes-rows}
 use Rattle.model.specs.Facts.{AuditedFacts, InOrder}
 use Rattle.model.proofs.AuditLaws.{audited-facts, audited-sound}
 use Rattle.claims.proofs.Regions.{answered, none-asked, table-front}
@@ -44,22 +44,26 @@ table-accepted st t out a h l =
     answered 0 (sound st) (question 12 held ∷ question 13 long ∷ []) (audited-sound st a)
     (answered 11 held (question 13 long ∷ []) (le-leb _ _ h) (answered 12 long [] (le-leb _ _ l) none-asked))
 
-pub table-is-timeslice : (st : State) (t : ℕ) (out : List ℕ) → Audited st → t ≤ st .numbers .last → 8 * st .numbers .limit ≤ length out → TableIsTimeslice st t out
-unfolding tableOf
-table-is-timeslice st t out a h l =
-    let q = table-accepted st t out a h l in
-    let R = st .numbers .limit in
-    let rows = rowsAt st t in
-    let few : length (rowsAt st t) ≤ R = rows-few st (audited-facts st a) t in
-    record {
-      answered = rw q;
-      written =
-          rw q
-          (take-append-le (8 * length rows) (tableBytes R rows) (drop (0 + length (tableBytes R rows)) out) (omega (arith, length-table-bytes R rows few))
-          ∙ table-bytes-rows R rows);
-      ascending = asc-timeslice t (logOf st);
-      rows-are = λ q. (slice-of-has t q (logOf st), has-of-slice t q (logOf st));
-    }
+module _ (st : State) (t : ℕ) (out : List ℕ) (a : Audited st) (h : t ≤ st .numbers .last) (l : 8 * st .numbers .limit ≤ length out) where
+  pub table-answered : tableOf st t out .outcome ≡ answers (tableSaid st t)
+  unfolding tableOf
+  table-answered = rw (table-accepted st t out a h l)
+
+  pub table-stands : take (8 * st .numbers .limit) (tableOf st t out .output) ≡ tableBytes (st .numbers .limit) (rowsAt st t)
+  unfolding tableOf
+  table-stands = rw (table-accepted st t out a h l) (table-front (st .numbers .limit) (rowsAt st t) out (rows-few st (audited-facts st a) t))
+
+  pub table-is-timeslice : TableIsTimeslice st t (tableOf st t out)
+  table-is-timeslice =
+      record {
+        said = tableSaid st t;
+        rows = rowsAt st t;
+        answered = table-answered;
+        counted = refl;
+        stand = table-stands;
+        ascending = asc-timeslice t (logOf st);
+        rows-are = has-iff-report (st .numbers .limit) (logOf st) (audited-facts st a .log-legal) t;
+      }
 
 -- ---- the index
 
@@ -114,7 +118,7 @@ module _ (st : State) (o : InOrder st) where
     reopen-legal = rw (same-log, reads .limit-is, reads .last-is, facts .log-legal) (eq-eqb _ _ (facts .last-is))
 
     pub opens-alike : OpensAlike st m
-    unfolding openedMemory
+    unfolding openedMemory openedNumbers
     opens-alike =
         let e = open-accepted m reopen-asked reopen-legal in
         let is = open-state m e .1 in
@@ -127,6 +131,7 @@ module _ (st : State) (o : InOrder st) where
               rw (is, same-log, reads .order-is, reads .page-is, ← key-count st facts)
               (packed-same d (b .order-low) (keysOf st) (withTree d (keysOf st) (m .index)) (st .memory .index)
               (with-packed d (b .order-low) (keysOf st) (m .index) (rw (key-count st facts) (h .index-long))) (index-packed st facts));
+          same-live = rw (is, same-log, reads .last-is) (sym (facts .live-is));
           same-table =
               rw (is, same-log, reads .limit-is, reads .last-is)
               (table-front R (rowsNow st) (m .table) (rows-few st facts (st .numbers .last)) ∙ sym (facts .table-is));

@@ -1,5 +1,5 @@
--- The third demand: after every list of calls, refused ones included, from every accepted start, of net changes and outsets; and of
--- any two such lists that leave one log, of tables. Assumes nothing.
+-- The third demand: after every list of calls, refused ones included, from every accepted start, of net changes and outsets, and of
+-- which count files are held; and of any two such lists that leave one log, of tables. Assumes nothing.
 use Rattle.model.specs.Memory.{State}
 use Rattle.model.specs.Facts.{InOrder}
 use Rattle.model.specs.Demands.{DemandThree, SameTables, ThirdDemand, left}
@@ -7,17 +7,18 @@ use Rattle.claims.proofs.Lists.{stays-in-order}
 use Rattle.claims.proofs.NetChanges.{net-change-is}
 use Rattle.claims.proofs.Outsets.{outset-is-nearest}
 use Rattle.claims.proofs.SameLogs.{one-table}
+use Rattle.claims.proofs.FilesHeld.{held-since-kept}
 
 pub demand-three : (st : State) → InOrder st → DemandThree st
 demand-three st o =
     record {
-      net-changes = λ a b out work h g l k. net-change-is st a b out work (o .audited) h g l k;
+      net-changes = λ a b out work h g l k. net-change-is st o a b out work h g l k;
       outsets = λ t out h l. outset-is-nearest st t out (o .audited) h l;
     }
 
 pub same-tables : SameTables
-same-tables s s′ cs cs′ sf sf′ cf cf′ e e′ one t out out′ h l l′ =
-    one-table (left s cs) (left s′ cs′) (stays-in-order s cs sf cf e) (stays-in-order s′ cs′ sf′ cf′ e′) one t out out′ h l l′
+same-tables s s′ cs cs′ sf sf′ cf cf′ e e′ one =
+    one-table (left s cs) (left s′ cs′) (stays-in-order s cs sf cf e) (stays-in-order s′ cs′ sf′ cf′ e′) one
 
 pub third-demand : ThirdDemand
-third-demand = record { after-every-list = λ s cs sf cf e. demand-three (left s cs) (stays-in-order s cs sf cf e); same-tables = same-tables }
+third-demand = record { after-every-list = λ s cs sf cf e. demand-three (left s cs) (stays-in-order s cs sf cf e); same-tables = same-tables; held-since-kept = held-since-kept }

@@ -5,6 +5,7 @@ pub mod SliceLaws
 pub mod UpToLaws
 pub mod SmallLaws
 pub mod ReportLaws
+pub mod ReportedLaws
 pub mod LegalLaws
 pub mod WrongLaws
 pub mod TimeLaws
@@ -16,3 +17,4 @@ pub mod PromiseLaws
 pub mod AppendLaws
 pub mod RecordLaws
 pub mod AuditLaws
+pub mod FileLaws

@@ -30,6 +30,10 @@ pub asked-answered : {A : Type 0} (st : State) (x : A) → sound st ≡ true →
 unfolding refusedBy refusedAmong firstNo
 asked-answered st x q = record { standing-first = rw q; never-17 = refl }
 
+-- what follows from a refusal where there is none: `isRefused (answers x)` computes to false
+pub not-refused : {X : Type 0} → false ≡ true → X
+not-refused e = let n : _≡_ {A = ℕ} 0 1 = ap (λ (b : Bool). cond b 1 0) e in absurd (omega arith)
+
 -- ---- frames
 
 pub beyond-same : {A : Type 0} (k : ℕ) (xs : List A) → Beyond k xs xs

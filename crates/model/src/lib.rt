@@ -20,6 +20,7 @@ pub struct Settings {
 }
 
 // The store's numbers, passed by value. A stranger's may hold anything: question 1 tests them.
+#[repr(C)]
 pub struct Numbers {
     // order d of the index
     pub order: u16,

@@ -16,8 +16,9 @@ use Rattle.model.specs.Answers.{refuses, answers, firstNo}
 use Rattle.model.specs.Memory.{State, logOf, sound}
 use Rattle.model.specs.Outset.{outsetFor}
 use Rattle.model.specs.Queries.{positionOf, tableOf, viewOf, rowsPart}
-use Rattle.model.specs.Promises.{refusedBy, Beyond, PositionPromise, TablePromise, ViewPromise}
+use Rattle.model.specs.Promises.{isRefused, PositionPromise, TablePromise, ViewPromise}
 use Rattle.model.proofs.AuditLaws.{audited-facts}
+use Rattle.model.proofs.PromiseLaws.{asked-refused, asked-answered, not-refused, beyond-same}
 use Rattle.pages.specs.Paged.{Indexed, PositionIs}
 use Rattle.catalogue.specs.declared.Catalogue.{Catalogue}
 use Rattle.catalogue.specs.Files.{Loaded}
@@ -34,17 +35,17 @@ module _ (st : State) (t : ℕ) where
   -- ---- position
 
   pub position-header : sound st ≡ false → PositionPromise st t (refuses 1)
-  unfolding positionOf firstNo refusedBy
-  position-header q = record { question-1 = rw q; audited = λ a. rw q }
+  unfolding positionOf firstNo
+  position-header q = record { asked = asked-refused st 1 (rw q) refl; audited = λ a. rw q }
 
   pub position-late : sound st ≡ true → st .numbers .last < t → PositionPromise st t (refuses 12)
-  unfolding positionOf firstNo refusedBy
-  position-late q h = record { question-1 = rw q; audited = λ a. rw (q, lt-leb _ _ h) }
+  unfolding positionOf firstNo
+  position-late q h = record { asked = asked-refused st 12 (rw q) refl; audited = λ a. rw (q, lt-leb _ _ h) }
 
   pub position-answers : (p : ℕ) → sound st ≡ true → t ≤ st .numbers .last
       → PositionIs (st .numbers .order) (st .numbers .page) (st .numbers .records) t (st .memory .index) p → PositionPromise st t (answers p)
-  unfolding positionOf firstNo refusedBy
-  position-answers p q h is = record { question-1 = rw q; audited = λ a. rw (q, le-leb _ _ h) (ap answers (position-of st (audited-facts st a) is)) }
+  unfolding positionOf firstNo
+  position-answers p q h is = record { asked = asked-answered st p q; audited = λ a. rw (q, le-leb _ _ h) (ap answers (position-of st (audited-facts st a) is)) }
 
 -- ---- what question 1 tells
 
@@ -74,34 +75,31 @@ ready-of f h e =
 -- ---- table
 
 module _ (st : State) (t : ℕ) (out : List ℕ) where
-  beyond-same : Beyond (8 * st .numbers .limit) out out
-  beyond-same = record { same-length = refl; same-rest = refl }
-
   pub table-header : sound st ≡ false → TablePromise st t out (refuses 1) out
-  unfolding tableOf firstNo refusedBy
-  table-header q = record { question-1 = rw q; refused = λ k e. refl; framed = beyond-same; audited = λ a. rw q }
+  unfolding tableOf firstNo isRefused
+  table-header q = record { asked = asked-refused st 1 (rw q) refl; refused = λ e. refl; framed = beyond-same _ out; audited = λ a. rw q }
 
   pub table-late : sound st ≡ true → st .numbers .last < t → TablePromise st t out (refuses 12) out
-  unfolding tableOf firstNo refusedBy
-  table-late q h = record { question-1 = rw q; refused = λ k e. refl; framed = beyond-same; audited = λ a. rw (q, lt-leb _ _ h) }
+  unfolding tableOf firstNo isRefused
+  table-late q h = record { asked = asked-refused st 12 (rw q) refl; refused = λ e. refl; framed = beyond-same _ out; audited = λ a. rw (q, lt-leb _ _ h) }
 
   pub table-short : sound st ≡ true → t ≤ st .numbers .last → length out < 8 * st .numbers .limit → TablePromise st t out (refuses 13) out
-  unfolding tableOf firstNo refusedBy
+  unfolding tableOf firstNo isRefused
   table-short q h g =
-      record { question-1 = rw q; refused = λ k e. refl; framed = beyond-same; audited = λ a. rw (q, le-leb _ _ h, lt-leb _ _ g) }
+      record { asked = asked-refused st 13 (rw q) refl; refused = λ e. refl; framed = beyond-same _ out; audited = λ a. rw (q, le-leb _ _ h, lt-leb _ _ g) }
 
   -- the part lent, of 8 × R bytes, came back as the bytes ys
   pub table-answers : (c : Catalogue) (w : Worked) {ys : List ℕ} → sound st ≡ true → t ≤ st .numbers .last → 8 * st .numbers .limit ≤ length out → length ys ≡ 8 * st .numbers .limit
       → Loaded (st .memory .catalogue) (st .numbers .files) c
       → WorkedOut (st .numbers) (st .memory .log) (st .memory .index) (st .memory .table) (st .memory .areas) c t w ys
       → TablePromise st t out (answers (record { rows = w .rows; side = w .side; distance = w .distance })) (putMid 0 (8 * st .numbers .limit - 0) out ys)
-  unfolding tableOf firstNo refusedBy
+  unfolding tableOf firstNo isRefused
   table-answers c w {ys} q h room l has worked =
       let size = 8 * st .numbers .limit in
       let written : putMid 0 (size - 0) out ys ≡ put out 0 ys = put-back 0 (size - 0) out {ys = ys} {zs = ys} refl (rw sub-zero l) in
       record {
-        question-1 = rw q;
-        refused = λ k e. let z : _≡_ {A = ℕ} 0 1 = cc in absurd (omega arith);
+        asked = asked-answered st _ q;
+        refused = λ e. not-refused e;
         framed = record {
           same-length = ap length written ∙ length-put out 0 ys (omega arith);
           same-rest = ap (drop size) written ∙ drop-put size out 0 ys (omega arith) zero-le;
@@ -115,21 +113,21 @@ module _ (st : State) (t : ℕ) (out : List ℕ) where
 
 module _ (st : State) (t : ℕ) where
   pub view-header : sound st ≡ false → ViewPromise st t (refuses 1) (take 0 (st .memory .table))
-  unfolding viewOf firstNo refusedBy
-  view-header q = record { question-1 = rw q; audited = λ a. rw q }
+  unfolding viewOf firstNo
+  view-header q = record { asked = asked-refused st 1 (rw q) refl; audited = λ a. rw q }
 
   pub view-late : sound st ≡ true → st .numbers .last < t → ViewPromise st t (refuses 12) (take 0 (st .memory .table))
-  unfolding viewOf firstNo refusedBy
-  view-late q h = record { question-1 = rw q; audited = λ a. rw (q, lt-leb _ _ h) }
+  unfolding viewOf firstNo
+  view-late q h = record { asked = asked-refused st 12 (rw q) refl; audited = λ a. rw (q, lt-leb _ _ h) }
 
   pub view-answers : (c : Catalogue) (u : Used) → sound st ≡ true → t ≤ st .numbers .last → Loaded (st .memory .catalogue) (st .numbers .files) c
       → NearestIs (st .numbers) c t (st .memory .index) u
       → let h = u .chosen .outset in ViewPromise st t (answers (record { place = h .place; rows = h .rows; side = u .chosen .side; distance = u .chosen .distance }))
       (rowsPart (st .numbers .limit) (lent (st .memory .areas) (st .memory .table)) (h .place) (h .rows))
-  unfolding viewOf firstNo refusedBy
+  unfolding viewOf firstNo
   view-answers c u q h has near =
       record {
-        question-1 = rw q;
+        asked = asked-answered st _ q;
         audited = λ a.
             let f = audited-facts st a in
             let is : u .chosen ≡ outsetFor st t = near .chosen-is (logOf st) (st .memory .catalogue) (describes st f c has) in

@@ -10,3 +10,4 @@ pub mod QuestionCases
 pub mod QueryCases
 pub mod MemoryCases
 pub mod AuditCases
+pub mod CallCases

@@ -8,12 +8,12 @@ use mathlib.Core.Path.{_≡_, refl}
 use mathlib.Core.List.{List, [], _∷_, _++_, map}
 use mathlib.Core.Bool.{cond}
 use lib.ListN.{getD, replicate}
-use Rattle.model.specs.Answers.{Outcome, answers, refuses, Question, question}
+use Rattle.model.specs.Answers.{Outcome, answers, refuses, Question}
 use Rattle.model.specs.Records.{insertion, deletion}
-use Rattle.model.specs.Memory.{State, state, logOf, sound}
+use Rattle.model.specs.Memory.{State, state, logOf}
 use Rattle.model.specs.Starts.{After}
 use Rattle.model.specs.Changes.{insertQuestions, presentQuestions, insertOf, deleteOf, updateOf}
-use Rattle.model.specs.Files.{filesOf, isKept, keepQuestions, keepOf, dropOf}
+use Rattle.model.specs.Files.{keepQuestions, keepOf, dropQuestions, dropOf}
 use Rattle.model.specs.Calls.{fresh, begun}
 use Rattle.worked.proofs.Computing.{computing}
 use Rattle.worked.proofs.WorkedLog.{worked, entry}
@@ -39,7 +39,7 @@ abbrev keeps : ℕ → Ask
 keeps t = record { call = λ st. keepOf st t; questions = λ st. keepQuestions st t }
 
 abbrev drops : ℕ → Ask
-drops t = record { call = λ st. dropOf st t; questions = λ st. question 1 (sound st) ∷ question 16 (isKept t (filesOf st)) ∷ [] }
+drops t = record { call = λ st. dropOf st t; questions = λ st. dropQuestions st t }
 
 -- the numbers of the questions answered no
 unfoldable pub noes : List Question → List ℕ

@@ -85,29 +85,29 @@ case a r = record { ask = a; expected = r }
 -- ---- the cases
 
 -- "the table of 20 is 3:12, 7:50; of 30, 3:12, 7:44; of 45, 7:44", each in 8 × R bytes
-abbrev table20 : List ℕ
+abbrev pub table20 : List ℕ
 table20 = 3 ∷ 0 ∷ 0 ∷ 0 ∷ 12 ∷ 0 ∷ 0 ∷ 0 ∷ 7 ∷ 0 ∷ 0 ∷ 0 ∷ 50 ∷ 0 ∷ 0 ∷ 0 ∷ zeros 16
 
 abbrev table30 : List ℕ
 table30 = 3 ∷ 0 ∷ 0 ∷ 0 ∷ 12 ∷ 0 ∷ 0 ∷ 0 ∷ 7 ∷ 0 ∷ 0 ∷ 0 ∷ 44 ∷ 0 ∷ 0 ∷ 0 ∷ zeros 16
 
-abbrev table45 : List ℕ
+abbrev pub table45 : List ℕ
 table45 = 7 ∷ 0 ∷ 0 ∷ 0 ∷ 44 ∷ 0 ∷ 0 ∷ 0 ∷ zeros 24
 
 -- "delete 3:12, delete 7:50, insert 7:44", in 24 × R bytes
-abbrev change20to45 : List ℕ
+abbrev pub change20to45 : List ℕ
 change20to45 =
     12 ∷ 0 ∷ 3 ∷ 0 ∷ 3 ∷ 0 ∷ 0 ∷ 0 ∷ 12 ∷ 0 ∷ 0 ∷ 0
     ∷ 12 ∷ 0 ∷ 3 ∷ 0 ∷ 7 ∷ 0 ∷ 0 ∷ 0 ∷ 50 ∷ 0 ∷ 0 ∷ 0
     ∷ 12 ∷ 0 ∷ 2 ∷ 0 ∷ 7 ∷ 0 ∷ 0 ∷ 0 ∷ 44 ∷ 0 ∷ 0 ∷ 0 ∷ zeros 60
 
-abbrev told : ℕ → Side → ℕ → List ℕ → Written TableSaid
+abbrev pub told : ℕ → Side → ℕ → List ℕ → Written TableSaid
 told k side far out = record { outcome = answers (record { rows = k; side = side; distance = far }); output = out ++ (77 ∷ []) }
 
-abbrev changes : ℕ → List ℕ → List ℕ → Netted
+abbrev pub changes : ℕ → List ℕ → List ℕ → Netted
 changes k out work = record { outcome = answers k; output = out ++ (77 ∷ []); workspace = work ++ (77 ∷ []) }
 
-abbrev seen : Place → ℕ → Side → ℕ → List ℕ → Viewed
+abbrev pub seen : Place → ℕ → Side → ℕ → List ℕ → Viewed
 seen place k side far part = record { outcome = answers (record { place = place; rows = k; side = side; distance = far }); rows = part }
 
 -- each marked P in 01

@@ -88,7 +88,7 @@ worked-reachable =
 -- ---- with 20 kept
 
 -- entry 0 and area 0 hold the table of 20, entry 1 is zero, and the rest is as it was
-abbrev kept20 : State
+abbrev pub kept20 : State
 kept20 =
     state (record { order = 3; page = 2; limit = 4; records = 8; last = 60; live = 2; files = 1 })
     (record {

@@ -2,7 +2,8 @@
 
 use crate::tree::page_position;
 
-/// One entry of the catalogue.
+/// One entry of the catalogue, laid out as C has it, so that a list of them can be lent to C.
+#[repr(C)]
 #[derive(Clone, Copy, Debug, Default, PartialEq, Eq)]
 pub struct Entry {
     pub time: u64,

@@ -1,19 +1,20 @@
 //! The proved store, called through its static library. `Store` is how a Rust program has it: memory is
 //! borrowed, an answer is a `Result`, and a refusal has 01's number. The oracle uses nothing of this.
 
+mod answers;
 mod c;
 
-use crate::outset::Side;
-use crate::store::{Numbers, Refusal, TableAnswer};
+use crate::outset::{Entry, Place};
+use crate::store::{Numbers, Refusal, TableAnswer, View};
 
-/// The lent memory. The catalogue is `times` and `rows`; the shorter of the two counts.
+/// The lent memory.
 #[derive(Debug)]
 pub struct Memory<'a> {
     pub log: &'a mut [u8],
     pub index: &'a mut [u64],
     pub table: &'a mut [u8],
-    pub times: &'a mut [u64],
-    pub rows: &'a mut [u32],
+    /// the catalogue
+    pub entries: &'a mut [Entry],
     pub areas: &'a mut [u8],
 }
 
@@ -33,35 +34,35 @@ impl<'a> Store<'a> {
     }
 
     pub fn fresh(&mut self, order: u16, page_size: u16, row_limit: u32) -> Result<(), Refusal> {
-        let Memory { log, table, times, rows, areas, .. } = &mut self.memory;
+        let Memory { log, table, entries, areas, .. } = &mut self.memory;
         let answer = unsafe {
             c::yk_fresh(
                 order, page_size, row_limit,
                 log.as_mut_ptr(), log.len(), table.as_mut_ptr(), table.len(),
-                times.as_mut_ptr(), times.len(), rows.as_mut_ptr(), rows.len(), areas.as_ptr(), areas.len(),
+                entries.as_mut_ptr(), entries.len(), areas.as_ptr(), areas.len(),
             )
         };
         self.take_up(answer)
     }
 
     pub fn open(&mut self) -> Result<(), Refusal> {
-        let Memory { log, index, table, times, rows, areas } = &mut self.memory;
+        let Memory { log, index, table, entries, areas } = &mut self.memory;
         let answer = unsafe {
             c::yk_open(
                 log.as_ptr(), log.len(), index.as_mut_ptr(), index.len(), table.as_mut_ptr(), table.len(),
-                times.as_mut_ptr(), times.len(), rows.as_mut_ptr(), rows.len(), areas.as_ptr(), areas.len(),
+                entries.as_mut_ptr(), entries.len(), areas.as_ptr(), areas.len(),
             )
         };
         self.take_up(answer)
     }
 
     pub fn insert(&mut self, time: u64, article: u32, count: u32) -> Result<(), Refusal> {
-        let Memory { log, index, table, times, rows, areas } = &mut self.memory;
+        let Memory { log, index, table, entries, areas } = &mut self.memory;
         let answer = unsafe {
             c::yk_insert(
                 self.numbers.into(),
                 log.as_mut_ptr(), log.len(), index.as_mut_ptr(), index.len(), table.as_mut_ptr(), table.len(),
-                times.as_ptr(), times.len(), rows.as_ptr(), rows.len(), areas.as_ptr(), areas.len(),
+                entries.as_ptr(), entries.len(), areas.as_ptr(), areas.len(),
                 time, article, count,
             )
         };
@@ -69,12 +70,12 @@ impl<'a> Store<'a> {
     }
 
     pub fn delete(&mut self, time: u64, article: u32) -> Result<(), Refusal> {
-        let Memory { log, index, table, times, rows, areas } = &mut self.memory;
+        let Memory { log, index, table, entries, areas } = &mut self.memory;
         let answer = unsafe {
             c::yk_delete(
                 self.numbers.into(),
                 log.as_mut_ptr(), log.len(), index.as_mut_ptr(), index.len(), table.as_mut_ptr(), table.len(),
-                times.as_ptr(), times.len(), rows.as_ptr(), rows.len(), areas.as_ptr(), areas.len(),
+                entries.as_ptr(), entries.len(), areas.as_ptr(), areas.len(),
                 time, article,
             )
         };
@@ -82,12 +83,12 @@ impl<'a> Store<'a> {
     }
 
     pub fn update(&mut self, time: u64, article: u32, count: u32) -> Result<(), Refusal> {
-        let Memory { log, index, table, times, rows, areas } = &mut self.memory;
+        let Memory { log, index, table, entries, areas } = &mut self.memory;
         let answer = unsafe {
             c::yk_update(
                 self.numbers.into(),
                 log.as_mut_ptr(), log.len(), index.as_mut_ptr(), index.len(), table.as_mut_ptr(), table.len(),
-                times.as_ptr(), times.len(), rows.as_ptr(), rows.len(), areas.as_ptr(), areas.len(),
+                entries.as_ptr(), entries.len(), areas.as_ptr(), areas.len(),
                 time, article, count,
             )
         };
@@ -96,45 +97,110 @@ impl<'a> Store<'a> {
 
     /// The page position of t.
     pub fn position(&self, t: u64) -> Result<u32, Refusal> {
-        let Memory { log, index, table, times, rows, areas } = &self.memory;
+        let Memory { log, index, table, entries, areas } = &self.memory;
         let answer = unsafe {
             c::yk_position(
                 self.numbers.into(),
                 log.as_ptr(), log.len(), index.as_ptr(), index.len(), table.as_ptr(), table.len(),
-                times.as_ptr(), times.len(), rows.as_ptr(), rows.len(), areas.as_ptr(), areas.len(),
+                entries.as_ptr(), entries.len(), areas.as_ptr(), areas.len(),
                 t,
             )
         };
-        accepted(answer.question, 0).map(|()| answer.page)
+        answers::position(answer)
     }
 
     /// Writes the table of t into the first 8 × R bytes of the output.
     pub fn table(&self, t: u64, output: &mut [u8]) -> Result<TableAnswer, Refusal> {
-        let Memory { log, index, table, times, rows, areas } = &self.memory;
+        let Memory { log, index, table, entries, areas } = &self.memory;
         let answer = unsafe {
             c::yk_table(
                 self.numbers.into(),
                 log.as_ptr(), log.len(), index.as_ptr(), index.len(), table.as_ptr(), table.len(),
-                times.as_ptr(), times.len(), rows.as_ptr(), rows.len(), areas.as_ptr(), areas.len(),
+                entries.as_ptr(), entries.len(), areas.as_ptr(), areas.len(),
                 t, output.as_mut_ptr(), output.len(),
             )
         };
-        let side = if answer.later == 1 { Side::Later } else { Side::Earlier };
-        accepted(answer.question, 0)
-            .map(|()| TableAnswer { rows: answer.rows, side, distance: answer.distance })
+        answers::table(answer)
+    }
+
+    /// Where the rows are that the table of t is worked out from.
+    pub fn view(&self, t: u64) -> Result<View, Refusal> {
+        let Memory { log, index, table, entries, areas } = &self.memory;
+        let answer = unsafe {
+            c::yk_view(
+                self.numbers.into(),
+                log.as_ptr(), log.len(), index.as_ptr(), index.len(), table.as_ptr(), table.len(),
+                entries.as_ptr(), entries.len(), areas.as_ptr(), areas.len(),
+                t,
+            )
+        };
+        answers::view(answer)
+    }
+
+    /// The rows of a view, a part of the areas or of the table.
+    pub fn view_bytes(&self, view: &View) -> &[u8] {
+        let region: &[u8] = if let Place::File(_) = view.place { self.memory.areas } else { self.memory.table };
+        &region[view.start..view.start + view.length]
+    }
+
+    /// Writes the entries into the first 24 × R bytes of the output, and the tables of a and b into the first
+    /// 16 × R bytes of the workspace. Answers the number of entries.
+    pub fn net_change(&self, a: u64, b: u64, output: &mut [u8], workspace: &mut [u8]) -> Result<u32, Refusal> {
+        let Memory { log, index, table, entries, areas } = &self.memory;
+        let answer = unsafe {
+            c::yk_net_change(
+                self.numbers.into(),
+                log.as_ptr(), log.len(), index.as_ptr(), index.len(), table.as_ptr(), table.len(),
+                entries.as_ptr(), entries.len(), areas.as_ptr(), areas.len(),
+                a, b,
+                output.as_mut_ptr(), output.len(), workspace.as_mut_ptr(), workspace.len(),
+            )
+        };
+        answers::net_change(answer)
+    }
+
+    pub fn keep(&mut self, t: u64) -> Result<(), Refusal> {
+        let Memory { log, index, table, entries, areas } = &mut self.memory;
+        let answer = unsafe {
+            c::yk_keep(
+                self.numbers.into(),
+                log.as_ptr(), log.len(), index.as_ptr(), index.len(), table.as_ptr(), table.len(),
+                entries.as_mut_ptr(), entries.len(), areas.as_mut_ptr(), areas.len(),
+                t,
+            )
+        };
+        self.take_up(answer)
+    }
+
+    /// Drop a count file. (The name `drop` is the language's own.)
+    pub fn drop_file(&mut self, t: u64) -> Result<(), Refusal> {
+        let Memory { log, index, table, entries, areas } = &mut self.memory;
+        let answer = unsafe {
+            c::yk_drop(
+                self.numbers.into(),
+                log.as_ptr(), log.len(), index.as_ptr(), index.len(), table.as_ptr(), table.len(),
+                entries.as_mut_ptr(), entries.len(), areas.as_mut_ptr(), areas.len(),
+                t,
+            )
+        };
+        self.take_up(answer)
+    }
+
+    pub fn audit(&self) -> bool {
+        let Memory { log, index, table, entries, areas } = &self.memory;
+        let answer = unsafe {
+            c::yk_audit(
+                self.numbers.into(),
+                log.as_ptr(), log.len(), index.as_ptr(), index.len(), table.as_ptr(), table.len(),
+                entries.as_ptr(), entries.len(), areas.as_ptr(), areas.len(),
+            )
+        };
+        answers::yes(answer)
     }
 
     /// Goes on with the numbers of an answer.
     fn take_up(&mut self, answer: c::YkChange) -> Result<(), Refusal> {
         self.numbers = answer.numbers.into();
-        accepted(answer.question, answer.record)
-    }
-}
-
-fn accepted(question: u8, record: u32) -> Result<(), Refusal> {
-    match question {
-        0 => Ok(()),
-        17 => Err(Refusal { question, record: Some(record) }),
-        _ => Err(Refusal { question, record: None }),
+        answers::change(answer)
     }
 }

@@ -6,10 +6,12 @@ use common::{by_hand, fresh, outset, table};
 use oracle::outset::{
     choose, earlier_candidate, held, later_candidate, page_distance, Entry, Held, Place, Side,
 };
-use oracle::store::{Part, View};
+use oracle::store::View;
 
-fn view(part: Part, start: usize, length: usize, side: Side, distance: u32) -> View {
-    View { part, start, length, side, distance }
+/// A view of so many rows, with R = 4: a count file's area takes 32 bytes.
+fn view(place: Place, rows: u32, side: Side, distance: u32) -> View {
+    let start = if let Place::File(i) = place { 32 * i } else { 0 };
+    View { place, rows, start, length: 8 * rows as usize, side, distance }
 }
 
 #[test]
@@ -22,8 +24,8 @@ fn without_files() {
     assert_eq!(outset(&store, 40), (Side::Later, 1));
     assert_eq!(outset(&store, 59), (Side::Later, 1));
     assert_eq!(outset(&store, 60), (Side::Later, 0));
-    assert_eq!(store.view(0).unwrap(), view(Part::Table, 0, 0, Side::Earlier, 0));
-    assert_eq!(store.view(60).unwrap(), view(Part::Table, 0, 16, Side::Later, 0));
+    assert_eq!(store.view(0).unwrap(), view(Place::Empty, 0, Side::Earlier, 0));
+    assert_eq!(store.view(60).unwrap(), view(Place::Current, 2, Side::Later, 0));
 }
 
 /// The last time of a one-page log is a tie of 0, so it starts from time 0.
@@ -32,7 +34,7 @@ fn one_page() {
     let mut store = fresh(3, 64, 4);
     store.insert(10, 7, 50).unwrap();
     assert_eq!(outset(&store, 10), (Side::Earlier, 0));
-    assert_eq!(store.view(10).unwrap(), view(Part::Table, 0, 0, Side::Earlier, 0));
+    assert_eq!(store.view(10).unwrap(), view(Place::Empty, 0, Side::Earlier, 0));
 }
 
 #[test]
@@ -40,7 +42,7 @@ fn no_record() {
     let store = fresh(3, 2, 4);
     let (rows, answer) = table(&store, 0);
     assert_eq!((rows.len(), answer.rows, answer.side, answer.distance), (0, 0, Side::Earlier, 0));
-    assert_eq!(store.view(0).unwrap(), view(Part::Table, 0, 0, Side::Earlier, 0));
+    assert_eq!(store.view(0).unwrap(), view(Place::Empty, 0, Side::Earlier, 0));
 }
 
 #[test]
@@ -48,8 +50,8 @@ fn a_kept_time_starts_from_its_file_on_the_earlier_side() {
     let mut store = by_hand();
     store.keep(20).unwrap();
     store.keep(45).unwrap();
-    assert_eq!(store.view(45).unwrap(), view(Part::Areas, 32, 8, Side::Earlier, 0));
-    assert_eq!(store.view(20).unwrap(), view(Part::Areas, 0, 16, Side::Earlier, 0));
+    assert_eq!(store.view(45).unwrap(), view(Place::File(1), 1, Side::Earlier, 0));
+    assert_eq!(store.view(20).unwrap(), view(Place::File(0), 2, Side::Earlier, 0));
 }
 
 /// Time 0 and the file are as far in pages; the file is nearer in time and so the candidate.
@@ -57,21 +59,21 @@ fn a_kept_time_starts_from_its_file_on_the_earlier_side() {
 fn candidates_are_nearest_in_time() {
     let mut store = by_hand();
     store.keep(10).unwrap();
-    assert_eq!(store.view(20).unwrap(), view(Part::Areas, 0, 8, Side::Earlier, 0));
+    assert_eq!(store.view(20).unwrap(), view(Place::File(0), 1, Side::Earlier, 0));
     // between the two the pages choose: 39 is a unit of time before 40, but on the page of 30
     store.keep(30).unwrap();
     store.keep(40).unwrap();
-    assert_eq!(store.view(39).unwrap(), view(Part::Areas, 32, 16, Side::Earlier, 0));
+    assert_eq!(store.view(39).unwrap(), view(Place::File(1), 2, Side::Earlier, 0));
 }
 
 #[test]
 fn a_file_at_the_last_time_goes_before_the_current_table() {
     let mut store = by_hand();
     store.keep(60).unwrap();
-    assert_eq!(store.view(59).unwrap(), view(Part::Areas, 0, 16, Side::Later, 1));
-    assert_eq!(store.view(60).unwrap(), view(Part::Areas, 0, 16, Side::Earlier, 0));
+    assert_eq!(store.view(59).unwrap(), view(Place::File(0), 2, Side::Later, 1));
+    assert_eq!(store.view(60).unwrap(), view(Place::File(0), 2, Side::Earlier, 0));
     store.insert(70, 1, 1).unwrap();
-    assert_eq!(store.view(70).unwrap(), view(Part::Table, 0, 24, Side::Later, 0));
+    assert_eq!(store.view(70).unwrap(), view(Place::Current, 3, Side::Later, 0));
 }
 
 /// A file between t and the last time is the later candidate, also where it is no nearer than the

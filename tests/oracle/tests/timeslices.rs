@@ -99,7 +99,8 @@ fn files_without_rows() {
     assert_eq!(store.kept()[0].rows + store.kept()[1].rows, 0);
     assert_eq!(common::refused(store.keep(25)), 14);
     let view = store.view(25).unwrap();
-    assert_eq!((view.part, view.start, view.length), (oracle::store::Part::Areas, 16, 0));
+    assert_eq!((view.place, view.rows), (oracle::outset::Place::File(1), 0));
+    assert_eq!((view.start, view.length), (16, 0));
     store.drop_file(25).unwrap();
     assert!(store.audit());
 }

@@ -1,11 +1,12 @@
-//! Times the proved store beside a plain Rust one: 65,536 records, R = 1,024, N = 64, d = 64, buffers warm,
-//! the best of several runs. Both write the same bytes, which is checked.
+//! Times the proved store beside a plain Rust one: 65,536 records, R = 1,024, N = 64, d = 64, 16 count files or
+//! none, buffers warm, the best of several runs. Both write the same bytes and answer the same, which is checked.
 
-use oracle::limits::MOST_RECORDS;
+use oracle::limits::{MOST_FILES, MOST_RECORDS};
 use oracle::log::log_length;
 use oracle::plain::Plain;
 use oracle::proved::{Memory, Store};
 use oracle::random::Random;
+use oracle::store::Lengths;
 use oracle::table::table_length;
 use oracle::tree::word_count;
 use std::hint::black_box;
@@ -52,63 +53,156 @@ fn requests(random: &mut Random) -> Vec<Request> {
     requests
 }
 
-/// The times of the fastest runs of both, in nanoseconds. They run in turn, so that both meet the same noise.
-fn best<A, B>(mut proved: impl FnMut() -> A, mut plain: impl FnMut() -> B) -> (f64, f64) {
-    let mut fastest = (f64::INFINITY, f64::INFINITY);
-    for _ in 0..RUNS {
+/// The times of the fastest runs of both, in nanoseconds.
+#[derive(Clone, Copy)]
+struct Fastest {
+    proved: f64,
+    plain: f64,
+}
+
+impl Fastest {
+    fn new() -> Fastest {
+        Fastest { proved: f64::INFINITY, plain: f64::INFINITY }
+    }
+
+    /// One run more of both. They run in turn, so that both meet the same noise.
+    fn run<A, B>(&mut self, proved: impl FnOnce() -> A, plain: impl FnOnce() -> B) {
         let start = Instant::now();
         black_box(proved());
         let between = Instant::now();
         black_box(plain());
-        fastest.0 = fastest.0.min((between - start).as_nanos() as f64);
-        fastest.1 = fastest.1.min(between.elapsed().as_nanos() as f64);
+        self.plain = self.plain.min(between.elapsed().as_nanos() as f64);
+        self.proved = self.proved.min((between - start).as_nanos() as f64);
     }
-    fastest
+
+    /// One line of the report: the times of both for one call, in this many nanoseconds, and their ratio.
+    fn line(&self, what: &str, unit: &str, by: f64) {
+        let (proved, plain) = (self.proved / by, self.plain / by);
+        println!("{what:<22} {proved:>9.1} {plain:>9.1} {unit}  {:.2}", proved / plain);
+    }
 }
 
-/// One line of the report: the times of both for one call, in this many nanoseconds, and their ratio.
-fn line(what: &str, unit: &str, (proved, plain): (f64, f64), by: f64) {
-    let (proved, plain) = (proved / by, plain / by);
-    println!("{what:<20} {proved:>9.1} {plain:>9.1} {unit}  {:.2}", proved / plain);
+fn best<A, B>(mut proved: impl FnMut() -> A, mut plain: impl FnMut() -> B) -> Fastest {
+    let mut fastest = Fastest::new();
+    for _ in 0..RUNS {
+        fastest.run(&mut proved, &mut plain);
+    }
+    fastest
 }
 
 fn main() {
     let mut random = Random::new(2055);
     let requests = requests(&mut random);
-    let (log, index) = (log_length(MOST_RECORDS), word_count(ORDER, PAGE_SIZE, MOST_RECORDS));
-    let (mut log_bytes, mut words) = (vec![0; log], vec![0; index]);
-    let mut table = vec![0; table_length(ROW_LIMIT)];
-    let (times, rows, areas) = (&mut [0; 0], &mut [0; 0], &mut [0; 0]);
-    let memory = Memory { log: &mut log_bytes, index: &mut words, table: &mut table, times, rows, areas };
-    let mut proved = Store::over(memory);
-    let mut plain = Plain::fresh(ORDER, PAGE_SIZE, ROW_LIMIT, log, index);
+    let area = table_length(ROW_LIMIT);
+    let lengths = Lengths {
+        log: log_length(MOST_RECORDS),
+        index: word_count(ORDER, PAGE_SIZE, MOST_RECORDS),
+        table: area,
+        catalogue: MOST_FILES,
+        areas: MOST_FILES * area,
+    };
+    let mut lent = oracle::store::Memory::filled(lengths, 0);
+    let mut proved = Store::over(Memory {
+        log: &mut lent.log,
+        index: &mut lent.index,
+        table: &mut lent.table,
+        entries: &mut lent.catalogue,
+        areas: &mut lent.areas,
+    });
+    let mut plain = Plain::fresh(ORDER, PAGE_SIZE, ROW_LIMIT, lengths);
 
-    println!("{:<20} {:>9} {:>9}", "", "proved", "plain");
+    println!("{:<22} {:>9} {:>9}", "", "proved", "plain");
     let append = best(|| append_proved(&mut proved, &requests), || append_plain(&mut plain, &requests));
-    assert!(proved.numbers == plain.numbers && proved.memory.log == plain.log);
-    assert!(proved.memory.index == plain.index && proved.memory.table == plain.table);
-    line("append, a record", "ns", append, MOST_RECORDS as f64);
+    same(&proved, &plain);
+    append.line("append, a record", "ns", MOST_RECORDS as f64);
 
-    let asked: Vec<u64> = (0..POSITIONS).map(|_| random.from(0, plain.numbers.last)).collect();
-    let same = |&t: &u64| proved.position(t).unwrap() as usize == plain.position(t);
-    assert!(asked.iter().all(same));
+    let last = plain.numbers.last;
+    let asked: Vec<u64> = (0..POSITIONS).map(|_| random.from(0, last)).collect();
+    assert!(asked.iter().all(|&t| proved.position(t).unwrap() as usize == plain.position(t)));
     let position = best(
         || asked.iter().map(|&t| proved.position(t).unwrap() as usize).sum::<usize>(),
         || asked.iter().map(|&t| plain.position(t)).sum::<usize>(),
     );
-    line("position", "ns", position, POSITIONS as f64);
+    position.line("position", "ns", POSITIONS as f64);
 
-    let asked = &asked[..TABLES];
-    let [left, right] = &mut [0, 0].map(|fill| vec![fill; table_length(ROW_LIMIT)]);
+    queries(&proved, &plain, &asked[..TABLES], "no file");
+    keep_and_drop(&mut proved, &mut plain, &mut random);
+    queries(&proved, &plain, &asked[..TABLES], "16 files");
+}
+
+/// Both stores have the same numbers and the same memory.
+fn same(proved: &Store, plain: &Plain) {
+    assert_eq!(proved.numbers, plain.numbers);
+    assert!(proved.memory.log == plain.log && proved.memory.index == plain.index);
+    assert!(proved.memory.table == plain.table && proved.memory.entries == plain.entries);
+    assert!(proved.memory.areas == plain.areas);
+}
+
+/// Table, net change and audit, with as many count files as are kept.
+fn queries(proved: &Store, plain: &Plain, asked: &[u64], files: &str) {
+    let area = table_length(ROW_LIMIT);
+    let [left, right] = &mut [0, 0].map(|fill| vec![fill; 3 * area]);
+    let [work, other_work] = &mut [0, 0].map(|fill| vec![fill; 2 * area]);
     for &t in asked {
-        assert_eq!(proved.table(t, left).unwrap().rows as usize, plain.table(t, right));
-        assert_eq!(left, right);
+        let rows = proved.table(t, &mut left[..area]).unwrap().rows as usize;
+        assert_eq!(rows, plain.table(t, &mut right[..area]));
+        assert!(left[..area] == right[..area]);
     }
     let table = best(
-        || asked.iter().map(|&t| proved.table(t, left).unwrap().rows).sum::<u32>(),
-        || asked.iter().map(|&t| plain.table(t, right)).sum::<usize>(),
+        || asked.iter().map(|&t| proved.table(t, &mut left[..area]).unwrap().rows).sum::<u32>(),
+        || asked.iter().map(|&t| plain.table(t, &mut right[..area])).sum::<usize>(),
     );
-    line("table, no file kept", "µs", table, 1e3 * TABLES as f64);
+    table.line(&format!("table, {files}"), "µs", 1e3 * asked.len() as f64);
+
+    let pairs: Vec<[u64; 2]> = asked.windows(2).map(|pair| [pair[0], pair[1]]).collect();
+    for &[a, b] in &pairs {
+        let entries = proved.net_change(a, b, left, work).unwrap() as usize;
+        assert_eq!(entries, plain.net_change(a, b, right, other_work));
+        assert!(left == right && work == other_work);
+    }
+    let net_change = best(
+        || pairs.iter().map(|&[a, b]| proved.net_change(a, b, left, work).unwrap()).sum::<u32>(),
+        || pairs.iter().map(|&[a, b]| plain.net_change(a, b, right, other_work)).sum::<usize>(),
+    );
+    net_change.line(&format!("net change, {files}"), "µs", 1e3 * pairs.len() as f64);
+
+    assert!(proved.audit() && plain.audit());
+    let audit = best(|| proved.audit(), || plain.audit());
+    audit.line(&format!("audit, {files}"), "µs", 1e3);
+}
+
+/// Keeps 16 files in any order, and drops them in another; they are kept again at the end.
+fn keep_and_drop(proved: &mut Store, plain: &mut Plain, random: &mut Random) {
+    let last = plain.numbers.last;
+    let mut times: Vec<u64> = (1..=MOST_FILES as u64).map(|k| last * k / (MOST_FILES as u64 + 1)).collect();
+    shuffle(random, &mut times);
+    let mut dropped = times.clone();
+    shuffle(random, &mut dropped);
+    let (mut keep, mut drop) = (Fastest::new(), Fastest::new());
+    for _ in 0..RUNS {
+        keep.run(
+            || times.iter().for_each(|&t| proved.keep(t).unwrap()),
+            || times.iter().for_each(|&t| plain.keep(t).unwrap()),
+        );
+        same(proved, plain);
+        drop.run(
+            || dropped.iter().for_each(|&t| proved.drop_file(t).unwrap()),
+            || dropped.iter().for_each(|&t| plain.drop_file(t).unwrap()),
+        );
+        same(proved, plain);
+    }
+    keep.line("keep, of 16 files", "µs", 1e3 * MOST_FILES as f64);
+    drop.line("drop, of 16 files", "µs", 1e3 * MOST_FILES as f64);
+    for &t in &times {
+        proved.keep(t).unwrap();
+        plain.keep(t).unwrap();
+    }
+}
+
+fn shuffle(random: &mut Random, list: &mut [u64]) {
+    for k in (1..list.len()).rev() {
+        list.swap(k, random.place(k + 1));
+    }
 }
 
 fn append_proved(store: &mut Store, requests: &[Request]) {

@@ -1,15 +1,19 @@
 //! Makes random lists of calls on the oracle and on the proved store, and compares them byte by byte after
-//! each call: the answer, the numbers, and all of the lent memory. On memory that the audit denies, where 01
-//! leaves the answer open, it compares question 1, that a refusal changes nothing, and the bytes no call names.
+//! each call: the answer, the numbers, all of the lent memory, the output and the workspace. On memory that the
+//! audit denies, where 01 leaves most answers open, it compares question 1, that a refusal changes nothing, the
+//! bytes no call names, and the audit's own answer.
 
 use oracle::calls::{call, damage, last_records, start, Call, Plan};
+use oracle::layout::HEADER_BYTES;
 use oracle::log::log_length;
-use oracle::outset::Entry;
+use oracle::net_change::output_length;
+use oracle::outset::Place;
 use oracle::proved;
 use oracle::random::Random;
-use oracle::store::{Memory, Numbers, Refusal, Store, TableAnswer};
+use oracle::store::{Memory, Numbers, Refusal, Store, TableAnswer, View};
 use oracle::table::table_length;
 use oracle::tree::word_count;
+use std::panic::catch_unwind;
 use std::process::ExitCode;
 
 /// The seed where none is given, so that two runs make the same lists.
@@ -18,24 +22,60 @@ const SEED: u64 = 2055;
 /// Stores near the most records there are: order, page size, records left.
 const ENDS: [(u16, u16, u32); 4] = [(64, 64, 2), (64, 64, 1), (3, 2, 2), (2, 2, 1)];
 
-/// What stands in an output before a call, and in the part of a catalogue that the other slice lacks.
+/// What stands in an output and in a workspace before a call.
 const STRANGE: u8 = 0xA5;
 
-/// What a call answered, and the output that it wrote.
+/// What a call answered, and the output and the workspace that it wrote.
 #[derive(Clone, Debug, PartialEq, Eq)]
 enum Answer {
     Change(Result<(), Refusal>),
     Position(Result<u32, Refusal>),
     Table(Result<TableAnswer, Refusal>, Vec<u8>),
+    View(Result<View, Refusal>),
+    NetChange(Result<u32, Refusal>, Vec<u8>, Vec<u8>),
+    Audit(bool),
     None,
 }
 
-/// The proved store with memory of its own. One slice of the catalogue may be longer than the other.
-struct Proved {
-    numbers: Numbers,
-    memory: Memory,
-    times: Vec<u64>,
-    rows: Vec<u32>,
+/// The answer of a store to a call. The oracle and the proved store have the same calls.
+macro_rules! answer {
+    ($store:expr, $call:expr) => {
+        match $call {
+            Call::Fresh(order, page_size, row_limit) => {
+                Answer::Change($store.fresh(order, page_size, row_limit))
+            }
+            Call::Open => Answer::Change($store.open()),
+            Call::Insert(time, article, count) => Answer::Change($store.insert(time, article, count)),
+            Call::Delete(time, article) => Answer::Change($store.delete(time, article)),
+            Call::Update(time, article, count) => Answer::Change($store.update(time, article, count)),
+            Call::Position(t) => Answer::Position($store.position(t)),
+            Call::Table(t, length) => {
+                let mut output = vec![STRANGE; length];
+                Answer::Table($store.table(t, &mut output), output)
+            }
+            Call::View(t) => Answer::View($store.view(t)),
+            Call::NetChange(a, b, output, workspace) => {
+                let (mut output, mut workspace) = (vec![STRANGE; output], vec![STRANGE; workspace]);
+                Answer::NetChange($store.net_change(a, b, &mut output, &mut workspace), output, workspace)
+            }
+            Call::Keep(t) => Answer::Change($store.keep(t)),
+            Call::Drop(t) => Answer::Change($store.drop_file(t)),
+            Call::Audit => Answer::Audit($store.audit()),
+            Call::Damage(_) => Answer::None,
+        }
+    };
+}
+
+impl Answer {
+    fn refusal(&self) -> Option<Refusal> {
+        match self {
+            Answer::Change(result) => result.err(),
+            Answer::Position(result) | Answer::NetChange(result, ..) => result.err(),
+            Answer::Table(result, _) => result.err(),
+            Answer::View(result) => result.err(),
+            Answer::Audit(_) | Answer::None => None,
+        }
+    }
 }
 
 struct Difference {
@@ -58,8 +98,13 @@ fn main() -> ExitCode {
         }
     }
     for number in 0..lists {
-        if let Err(difference) = compare_list(&mut Random::for_case(seed, number)) {
-            return report(&format!("seed {seed}, list {number}"), &difference);
+        match catch_unwind(|| compare_list(&mut Random::for_case(seed, number))) {
+            Ok(Ok(())) => {}
+            Ok(Err(difference)) => return report(&format!("seed {seed}, list {number}"), &difference),
+            Err(_) => {
+                println!("seed {seed}, list {number}: stopped");
+                return ExitCode::FAILURE;
+            }
         }
     }
     println!("{lists} lists of calls agree (seed {seed})");
@@ -84,8 +129,9 @@ fn read_arguments(arguments: &[String]) -> Option<(u64, u64)> {
 fn compare_list(random: &mut Random) -> Result<(), Difference> {
     let (memory, first) = start(random);
     let plan = Plan::new(random);
-    let mut proved = Proved::over(&memory, random.pick(&[(0, 0), (1, 0), (0, 3)]));
     let mut oracle = Store::over(memory);
+    // numbers and memory of the proved store
+    let mut proved = oracle.clone();
     let mut calls = Vec::new();
     let mut damaged = false;
     let mut next = first;
@@ -95,8 +141,8 @@ fn compare_list(random: &mut Random) -> Result<(), Difference> {
             Call::Damage(seed) => {
                 damaged = true;
                 damage(&mut oracle, seed);
-                proved.copy_from(&oracle);
-                Ok(())
+                proved = oracle.clone();
+                compare_whole(&mut oracle, &mut proved, Call::Audit)
             }
             // these two are promised on any memory
             Call::Fresh(..) | Call::Open => {
@@ -109,14 +155,15 @@ fn compare_list(random: &mut Random) -> Result<(), Difference> {
         compared.map_err(|what| Difference { calls: calls.clone(), what })?;
         next = call(random, &plan, &oracle);
     }
-    Ok(())
+    calls.push(Call::Audit);
+    compare_whole(&mut oracle, &mut proved, Call::Audit).map_err(|what| Difference { calls, what })
 }
 
 /// The list of a store near its last record.
 fn compare_end(order: u16, page_size: u16, left: u32) -> Result<(), Difference> {
     let (memory, calls) = last_records(order, page_size, left);
-    let mut proved = Proved::over(&memory, (0, 0));
     let mut oracle = Store::over(memory);
+    let mut proved = oracle.clone();
     for (k, &call) in calls.iter().enumerate() {
         compare_whole(&mut oracle, &mut proved, call)
             .map_err(|what| Difference { calls: calls[..=k].to_vec(), what })?;
@@ -124,157 +171,110 @@ fn compare_end(order: u16, page_size: u16, left: u32) -> Result<(), Difference> 
     Ok(())
 }
 
+/// The proved store's answer. Numbers and memory are then as it left them.
+fn answer_of_proved(Store { numbers, memory }: &mut Store, call: Call) -> Answer {
+    let Memory { log, index, table, catalogue, areas } = memory;
+    let memory = proved::Memory { log, index, table, entries: catalogue, areas };
+    let mut store = proved::Store { numbers: *numbers, memory };
+    let answer = answer!(store, call);
+    *numbers = store.numbers;
+    answer
+}
+
 /// Answer, numbers and memory are the oracle's.
-fn compare_whole(oracle: &mut Store, proved: &mut Proved, call: Call) -> Result<(), String> {
-    let (right, got) = (answer_of_oracle(oracle, call), proved.answer(call));
+fn compare_whole(oracle: &mut Store, proved: &mut Store, call: Call) -> Result<(), String> {
+    let (right, got) = (answer!(oracle, call), answer_of_proved(proved, call));
     same("answer", &right, &got)?;
     same("numbers", &oracle.numbers, &proved.numbers)?;
     same_memory(&oracle.memory, &proved.memory)
 }
 
 /// Memory that the audit denies; the oracle goes on from what the proved store left.
-fn compare_denied(oracle: &mut Store, proved: &mut Proved, call: Call) -> Result<(), String> {
-    // a position of time 0 is refused by question 1 alone
-    let question_1 = oracle.position(0).is_ok();
+fn compare_denied(oracle: &mut Store, proved: &mut Store, call: Call) -> Result<(), String> {
     let before = oracle.clone();
-    let got = proved.answer(call);
-    same("question 1", &!question_1, &got.is_refused_by(1))?;
-    if got.is_refused() {
-        same("numbers after a refusal", &before.numbers, &proved.numbers)?;
-        same_memory(&before.memory, &proved.memory)?;
+    let got = answer_of_proved(proved, call);
+    if call == Call::Audit {
+        same("audit", &Answer::Audit(false), &got)?;
+    } else {
+        compare_refusal(&before, proved, call, got.refusal())?;
     }
-    let more = match call {
-        Call::Insert(..) | Call::Delete(..) => 1,
-        Call::Update(..) => 2,
-        _ => 0,
-    };
-    only_named(&before, &proved.memory, more)?;
-    if let Answer::Table(result, output) = got {
-        let named = result.map_or(0, |_| table_length(before.numbers.row_limit));
-        same("output not named", &true, &output[named..].iter().all(|byte| *byte == STRANGE))?;
-    }
-    proved.copy_to(oracle);
+    only_named(&before, &proved.memory, call)?;
+    only_named_outputs(&before, &got)?;
+    *oracle = proved.clone();
     Ok(())
 }
 
-/// Only the header, the slots of so many records, the nodes then needed and the table may differ.
-fn only_named(before: &Store, after: &Memory, more: u32) -> Result<(), String> {
+/// Question 1 refuses exactly where it must, and a refusal, by a question of the call, changes nothing.
+fn compare_refusal(
+    before: &Store,
+    after: &Store,
+    call: Call,
+    refusal: Option<Refusal>,
+) -> Result<(), String> {
+    let by_question_1 = refusal.is_some_and(|refusal| refusal.question == 1);
+    same("refused by 1", &!question_1(before), &by_question_1)?;
+    if let Some(Refusal { question, .. }) = refusal {
+        same("a question of the call", &true, &call.questions().contains(&question))?;
+        same("numbers after a refusal", &before.numbers, &after.numbers)?;
+        same_memory(&before.memory, &after.memory)?;
+    }
+    Ok(())
+}
+
+/// A position of time 0 is refused by question 1 alone.
+fn question_1(store: &Store) -> bool {
+    store.position(0).is_ok()
+}
+
+/// Only what 01 says that the call writes may differ: of an append the header, the slots of its records, the
+/// nodes then needed and the table; of a keep and a drop the entries and the areas of the files.
+fn only_named(before: &Store, after: &Memory, call: Call) -> Result<(), String> {
     let mut named = before.memory.clone();
-    let Numbers { order, page_size, row_limit, records, .. } = before.numbers;
-    if more > 0 && before.position(0).is_ok() {
-        let log = log_length(records)..log_length(records + more).min(named.log.len());
-        let index = ..word_count(order, page_size, records + more).min(named.index.len());
+    let Numbers { order, page_size, row_limit, records, files, .. } = before.numbers;
+    let (more_records, files) = match call {
+        Call::Insert(..) | Call::Delete(..) => (1, 0),
+        Call::Update(..) => (2, 0),
+        Call::Keep(_) => (0, files as usize + 1),
+        Call::Drop(_) => (0, files as usize),
+        _ => (0, 0),
+    };
+    if question_1(before) && more_records > 0 {
+        let log = log_length(records)..log_length(records + more_records).min(named.log.len());
+        let index = ..word_count(order, page_size, records + more_records).min(named.index.len());
         let table = ..table_length(row_limit);
-        named.log[..24].copy_from_slice(&after.log[..24]);
+        named.log[..HEADER_BYTES].copy_from_slice(&after.log[..HEADER_BYTES]);
         named.log[log.clone()].copy_from_slice(&after.log[log]);
         named.index[index].copy_from_slice(&after.index[index]);
         named.table[table].copy_from_slice(&after.table[table]);
     }
+    if question_1(before) && files > 0 {
+        let entries = ..files.min(named.catalogue.len());
+        let areas = ..(files * table_length(row_limit)).min(named.areas.len());
+        named.catalogue[entries].copy_from_slice(&after.catalogue[entries]);
+        named.areas[areas].copy_from_slice(&after.areas[areas]);
+    }
     same_memory(&named, after)
 }
 
-fn answer_of_oracle(store: &mut Store, call: Call) -> Answer {
-    match call {
-        Call::Fresh(order, page_size, row_limit) => Answer::Change(store.fresh(order, page_size, row_limit)),
-        Call::Open => Answer::Change(store.open()),
-        Call::Insert(time, article, count) => Answer::Change(store.insert(time, article, count)),
-        Call::Delete(time, article) => Answer::Change(store.delete(time, article)),
-        Call::Update(time, article, count) => Answer::Change(store.update(time, article, count)),
-        Call::Position(t) => Answer::Position(store.position(t)),
-        Call::Table(t, length) => {
-            let mut output = vec![STRANGE; length];
-            Answer::Table(store.table(t, &mut output), output)
+/// Only the front of an output and of a workspace was written, nothing by a refusal; a view lies in its region.
+fn only_named_outputs(before: &Store, answer: &Answer) -> Result<(), String> {
+    let row_limit = before.numbers.row_limit;
+    let untouched = |bytes: &[u8], named: usize| bytes.iter().skip(named).all(|byte| *byte == STRANGE);
+    let right = match answer {
+        Answer::Table(Ok(_), output) => untouched(output, table_length(row_limit)),
+        Answer::Table(Err(_), output) => untouched(output, 0),
+        Answer::NetChange(Ok(_), output, workspace) => {
+            untouched(output, output_length(row_limit)) && untouched(workspace, 2 * table_length(row_limit))
         }
-        Call::Damage(_) => Answer::None,
-    }
-}
-
-impl Answer {
-    fn refusal(&self) -> Option<Refusal> {
-        match self {
-            Answer::Change(result) => result.err(),
-            Answer::Position(result) => result.err(),
-            Answer::Table(result, _) => result.err(),
-            Answer::None => None,
+        Answer::NetChange(Err(_), output, workspace) => untouched(output, 0) && untouched(workspace, 0),
+        Answer::View(Ok(View { place, start, length, .. })) => {
+            let memory = &before.memory;
+            let region = if let Place::File(_) = place { &memory.areas } else { &memory.table };
+            start.checked_add(*length).is_some_and(|end| end <= region.len())
         }
-    }
-
-    fn is_refused(&self) -> bool {
-        self.refusal().is_some()
-    }
-
-    fn is_refused_by(&self, question: u8) -> bool {
-        self.refusal().is_some_and(|refusal| refusal.question == question)
-    }
-}
-
-impl Proved {
-    /// A copy of the memory, with so many times and rows more than it has entries.
-    fn over(memory: &Memory, (times, rows): (usize, usize)) -> Proved {
-        let entries = memory.catalogue.len();
-        let mut proved = Proved {
-            numbers: Numbers::default(),
-            memory: memory.clone(),
-            times: vec![u64::from_le_bytes([STRANGE; 8]); entries + times],
-            rows: vec![u32::from_le_bytes([STRANGE; 4]); entries + rows],
-        };
-        proved.split_catalogue();
-        proved
-    }
-
-    fn split_catalogue(&mut self) {
-        for (i, entry) in self.memory.catalogue.iter().enumerate() {
-            (self.times[i], self.rows[i]) = (entry.time, entry.rows);
-        }
-    }
-
-    /// The call's answer. Numbers and memory are then as it left them.
-    fn answer(&mut self, call: Call) -> Answer {
-        let Memory { log, index, table, areas, .. } = &mut self.memory;
-        let memory =
-            proved::Memory { log, index, table, times: &mut self.times, rows: &mut self.rows, areas };
-        let mut store = proved::Store { numbers: self.numbers, memory };
-        let answer = answer_of_proved(&mut store, call);
-        self.numbers = store.numbers;
-        self.join_catalogue();
-        answer
-    }
-
-    fn join_catalogue(&mut self) {
-        let entries = self.times.iter().zip(&self.rows);
-        self.memory.catalogue = entries.map(|(&time, &rows)| Entry { time, rows }).collect();
-        let entries = self.memory.catalogue.len();
-        let strange = |bytes: &[u8]| bytes.iter().all(|byte| *byte == STRANGE);
-        assert!(self.times[entries..].iter().all(|time| strange(&time.to_le_bytes())));
-        assert!(self.rows[entries..].iter().all(|rows| strange(&rows.to_le_bytes())));
-    }
-
-    fn copy_from(&mut self, oracle: &Store) {
-        self.numbers = oracle.numbers;
-        self.memory = oracle.memory.clone();
-        self.split_catalogue();
-    }
-
-    fn copy_to(&self, oracle: &mut Store) {
-        oracle.numbers = self.numbers;
-        oracle.memory = self.memory.clone();
-    }
-}
-
-fn answer_of_proved(store: &mut proved::Store, call: Call) -> Answer {
-    match call {
-        Call::Fresh(order, page_size, row_limit) => Answer::Change(store.fresh(order, page_size, row_limit)),
-        Call::Open => Answer::Change(store.open()),
-        Call::Insert(time, article, count) => Answer::Change(store.insert(time, article, count)),
-        Call::Delete(time, article) => Answer::Change(store.delete(time, article)),
-        Call::Update(time, article, count) => Answer::Change(store.update(time, article, count)),
-        Call::Position(t) => Answer::Position(store.position(t)),
-        Call::Table(t, length) => {
-            let mut output = vec![STRANGE; length];
-            Answer::Table(store.table(t, &mut output), output)
-        }
-        Call::Damage(_) => Answer::None,
-    }
+        _ => true,
+    };
+    same("what the call does not name stays", &true, &right)
 }
 
 fn same<T: PartialEq + std::fmt::Debug>(what: &str, right: &T, got: &T) -> Result<(), String> {

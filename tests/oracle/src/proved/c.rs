@@ -1,9 +1,10 @@
 //! The calls as include/yokefennel.h declares them. A slice is a pointer and the number of its elements.
 
+use crate::outset::Entry;
 use crate::store::Numbers;
 
 #[repr(C)]
-#[derive(Clone, Copy)]
+#[derive(Clone, Copy, Debug)]
 pub struct YkNumbers {
     order: u16,
     page: u16,
@@ -29,6 +30,7 @@ impl From<YkNumbers> for Numbers {
 }
 
 #[repr(C)]
+#[derive(Debug)]
 pub struct YkChange {
     pub numbers: YkNumbers,
     pub question: u8,
@@ -36,17 +38,39 @@ pub struct YkChange {
 }
 
 #[repr(C)]
+#[derive(Debug)]
 pub struct YkPosition {
     pub question: u8,
     pub page: u32,
 }
 
 #[repr(C)]
+#[derive(Debug)]
 pub struct YkTable {
     pub question: u8,
     pub rows: u32,
     pub later: u8,
     pub distance: u32,
+}
+
+#[repr(C)]
+#[derive(Debug)]
+pub struct YkView {
+    pub question: u8,
+    pub place: u8,
+    pub area: u32,
+    pub rows: u32,
+    pub later: u8,
+    pub distance: u32,
+    pub start: usize,
+    pub length: usize,
+}
+
+#[repr(C)]
+#[derive(Debug)]
+pub struct YkNetChange {
+    pub question: u8,
+    pub entries: u32,
 }
 
 // one region to a line, its length beside it
@@ -56,8 +80,7 @@ extern "C" {
         order: u16, page: u16, limit: u32,
         log: *mut u8, log_length: usize,
         table: *mut u8, table_length: usize,
-        times: *mut u64, times_length: usize,
-        rows: *mut u32, rows_length: usize,
+        entries: *mut Entry, entries_length: usize,
         areas: *const u8, areas_length: usize,
     ) -> YkChange;
 
@@ -65,8 +88,7 @@ extern "C" {
         log: *const u8, log_length: usize,
         index: *mut u64, index_length: usize,
         table: *mut u8, table_length: usize,
-        times: *mut u64, times_length: usize,
-        rows: *mut u32, rows_length: usize,
+        entries: *mut Entry, entries_length: usize,
         areas: *const u8, areas_length: usize,
     ) -> YkChange;
 
@@ -75,8 +97,7 @@ extern "C" {
         log: *mut u8, log_length: usize,
         index: *mut u64, index_length: usize,
         table: *mut u8, table_length: usize,
-        times: *const u64, times_length: usize,
-        rows: *const u32, rows_length: usize,
+        entries: *const Entry, entries_length: usize,
         areas: *const u8, areas_length: usize,
         time: u64, article: u32, count: u32,
     ) -> YkChange;
@@ -86,8 +107,7 @@ extern "C" {
         log: *mut u8, log_length: usize,
         index: *mut u64, index_length: usize,
         table: *mut u8, table_length: usize,
-        times: *const u64, times_length: usize,
-        rows: *const u32, rows_length: usize,
+        entries: *const Entry, entries_length: usize,
         areas: *const u8, areas_length: usize,
         time: u64, article: u32,
     ) -> YkChange;
@@ -97,8 +117,7 @@ extern "C" {
         log: *mut u8, log_length: usize,
         index: *mut u64, index_length: usize,
         table: *mut u8, table_length: usize,
-        times: *const u64, times_length: usize,
-        rows: *const u32, rows_length: usize,
+        entries: *const Entry, entries_length: usize,
         areas: *const u8, areas_length: usize,
         time: u64, article: u32, count: u32,
     ) -> YkChange;
@@ -108,8 +127,7 @@ extern "C" {
         log: *const u8, log_length: usize,
         index: *const u64, index_length: usize,
         table: *const u8, table_length: usize,
-        times: *const u64, times_length: usize,
-        rows: *const u32, rows_length: usize,
+        entries: *const Entry, entries_length: usize,
         areas: *const u8, areas_length: usize,
         time: u64,
     ) -> YkPosition;
@@ -119,10 +137,60 @@ extern "C" {
         log: *const u8, log_length: usize,
         index: *const u64, index_length: usize,
         table: *const u8, table_length: usize,
-        times: *const u64, times_length: usize,
-        rows: *const u32, rows_length: usize,
+        entries: *const Entry, entries_length: usize,
         areas: *const u8, areas_length: usize,
         time: u64,
         out: *mut u8, out_length: usize,
     ) -> YkTable;
+
+    pub fn yk_view(
+        numbers: YkNumbers,
+        log: *const u8, log_length: usize,
+        index: *const u64, index_length: usize,
+        table: *const u8, table_length: usize,
+        entries: *const Entry, entries_length: usize,
+        areas: *const u8, areas_length: usize,
+        time: u64,
+    ) -> YkView;
+
+    pub fn yk_net_change(
+        numbers: YkNumbers,
+        log: *const u8, log_length: usize,
+        index: *const u64, index_length: usize,
+        table: *const u8, table_length: usize,
+        entries: *const Entry, entries_length: usize,
+        areas: *const u8, areas_length: usize,
+        a: u64, b: u64,
+        out: *mut u8, out_length: usize,
+        work: *mut u8, work_length: usize,
+    ) -> YkNetChange;
+
+    pub fn yk_keep(
+        numbers: YkNumbers,
+        log: *const u8, log_length: usize,
+        index: *const u64, index_length: usize,
+        table: *const u8, table_length: usize,
+        entries: *mut Entry, entries_length: usize,
+        areas: *mut u8, areas_length: usize,
+        time: u64,
+    ) -> YkChange;
+
+    pub fn yk_drop(
+        numbers: YkNumbers,
+        log: *const u8, log_length: usize,
+        index: *const u64, index_length: usize,
+        table: *const u8, table_length: usize,
+        entries: *mut Entry, entries_length: usize,
+        areas: *mut u8, areas_length: usize,
+        time: u64,
+    ) -> YkChange;
+
+    pub fn yk_audit(
+        numbers: YkNumbers,
+        log: *const u8, log_length: usize,
+        index: *const u64, index_length: usize,
+        table: *const u8, table_length: usize,
+        entries: *const Entry, entries_length: usize,
+        areas: *const u8, areas_length: usize,
+    ) -> u8;
 }

@@ -1,0 +1,86 @@
+-- Calls that are made (specs/Chains of model): each that keeps the promise of its contract answers and leaves what its
+-- definition says, so a list of them leaves what `run` says, and demands 2 and 3 hold of it. Assumes nothing.
+use mathlib.Core.Path.{_≡_, refl, sym, ap, _∙_, subst}
+use mathlib.Core.List.{List}
+use Rattle.model.specs.Answers.{Outcome, TableSaid}
+use Rattle.model.specs.Memory.{State}
+use Rattle.model.specs.Starts.{After, after}
+use Rattle.model.specs.Queries.{Written, Netted, tableOf}
+use Rattle.model.specs.Audit.{Audited}
+use Rattle.model.specs.Facts.{InOrder}
+use Rattle.model.specs.Calls.{Start, StartFits, begun, Call, AllFit, Said, changed, positioned, written, viewed, netted, audited, answerOf, step, run, Accepted}
+use Rattle.model.specs.Chains.{Carried, Ran, RanFrom}
+use Rattle.model.specs.Demands.{left, TableIsTimeslice, NetChangeIs, OutsetIsNearest, AnswersOf, CodeKeeps, CodeSameTables}
+use Rattle.claims.proofs.Opened.{start-audited}
+use Rattle.claims.proofs.Lists.{step-in-order}
+use Rattle.claims.proofs.SecondDemands.{demand-two}
+use Rattle.claims.proofs.SameLogs.{one-table}
+use Rattle.claims.proofs.ThirdDemands.{demand-three}
+
+-- ---- one call
+
+-- a call that may change the store
+made : {o : Outcome Unit} {st' : State} {x : After} → after o st' ≡ x → (changed o ≡ changed (x .outcome)) × (st' ≡ x .state)
+made e = (ap (λ (y : After). changed (y .outcome)) e, ap (λ (y : After). y .state) e)
+
+pub carried-is : {st : State} {c : Call} {said : Said} {st' : State} → Audited st → Carried st c said st' → (said ≡ answerOf st c) × (st' ≡ step st c)
+unfolding answerOf step
+carried-is ok (Carried.insert t a c p) = made (p .audited ok)
+carried-is ok (Carried.delete t a p) = made (p .audited ok)
+carried-is ok (Carried.update t a c p) = made (p .audited ok)
+carried-is ok (Carried.position t p) = (ap positioned (p .audited ok), refl)
+carried-is ok (Carried.table t out p) = (ap written (p .audited ok), refl)
+carried-is ok (Carried.view t p) = (ap viewed (p .audited ok), refl)
+carried-is ok (Carried.netChange a b out work p) = (ap netted (p .audited ok), refl)
+carried-is ok (Carried.keep t p) = made (p .audited ok)
+carried-is ok (Carried.drop t p) = made (p .audited ok)
+carried-is ok (Carried.audit e) = (ap audited e, refl)
+
+-- ---- calls one after the other
+
+pub ran-is : {st : State} {cs : List Call} {st' : State} → AllFit cs → InOrder st → Ran st cs st' → (st' ≡ run st cs) × InOrder st'
+unfolding run AllFit
+ran-is f o Ran.none = (refl, o)
+ran-is f o (Ran.next {st = st} {st' = st'} {c = c} {cs = cs} k r) =
+    let e : st' ≡ step st c = carried-is (o .audited) k .1 in
+    let h = ran-is (f .1) (subst (λ (x : State). InOrder x) (sym e) (step-in-order st c (f .0) o)) r in
+    (h .0 ∙ ap (λ (x : State). run x cs) e, h .1)
+
+pub ran-from-is : {s : Start} {cs : List Call} {st : State} → StartFits s → AllFit cs → RanFrom s cs st → (st ≡ left s cs) × InOrder st
+ran-from-is {s} {cs} {st} sf cf r =
+    let ok : Accepted (begun s) = ap (λ (y : After). y .outcome) (sym (r .accepted)) in
+    let at : r .first ≡ begun s .state = ap (λ (y : After). y .state) (r .accepted) in
+    let h = ran-is cf (subst (λ (x : State). InOrder x) (sym at) (start-audited s sf ok)) (r .ran) in
+    (h .0 ∙ ap (λ (x : State). run x cs) at, h .1)
+
+-- ---- what is answered
+
+table-of : {x y : Written TableSaid} → written x ≡ written y → y ≡ x
+table-of e = cc
+
+net-of : {x y : Netted} → netted x ≡ netted y → y ≡ x
+net-of e = cc
+
+pub answers-of : (st : State) → InOrder st → AnswersOf st
+unfolding answerOf
+answers-of st o =
+    let two = demand-two st o in
+    let three = demand-three st o in
+    record {
+      each = λ c said st'. carried-is (o .audited);
+      tables = λ t out table st' h l k.
+          let is : tableOf st t out ≡ table = table-of (carried-is (o .audited) k .0) in
+          (subst (TableIsTimeslice st t) is (two .tables t out h l), subst (OutsetIsNearest st t) is (three .outsets t out h l));
+      net-changes = λ a b out work net st' h g l i k.
+          subst (NetChangeIs st a b) (net-of (carried-is (o .audited) k .0)) (three .net-changes a b out work h g l i);
+    }
+
+-- ---- the theorems
+
+pub code-keeps : CodeKeeps
+code-keeps s cs st sf cf r =
+    let h = ran-from-is sf cf r in
+    record { is-run = h .0; audited = h .1 .audited; second = demand-two st (h .1); third = demand-three st (h .1); answered = answers-of st (h .1) }
+
+pub code-same-tables : CodeSameTables
+code-same-tables s s' cs cs' st st' sf sf' cf cf' r r' one = one-table st st' (ran-from-is sf cf r .1) (ran-from-is sf' cf' r' .1) one

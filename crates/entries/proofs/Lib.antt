@@ -1,0 +1,4 @@
+pub mod Bodies
+pub mod LentLaws
+pub mod ShellRules
+pub mod LentShared

@@ -1,0 +1,67 @@
+-- Answers in numbers, computed: in each all fields differ, so that no two can be exchanged. Assumes nothing.
+use Prim.Native.Nat.{ℕ}
+use mathlib.Core.Path.{_≡_, refl}
+use mathlib.Core.List.{List, [], _∷_, map}
+use Rattle.model.specs.declared.Numbers.{Numbers}
+use Rattle.model.specs.declared.Refusal.{Refusal}
+use Rattle.model.specs.declared.Refusal.the-variants.{Header, Order, PageSize, RowLimit, Memory, TimeNotAbove, ArticlePresent, ArticleAbsent, RowsFull, LogFull, IndexFull, TimeAfterLast, OutputShort, NotToKeep, CatalogueFull, NotKept, WrongRecord}
+use Rattle.model.specs.declared.Verdict.the-variants as verdict
+use Rattle.model.specs.declared.PositionAnswer.the-variants as position
+use Rattle.model.specs.declared.Side.the-variants.{Earlier, Later}
+use Rattle.model.specs.declared.Place.the-variants.{Empty, Area, Current}
+use Rattle.model.specs.declared.TableAnswer.the-variants as table
+use Rattle.model.specs.declared.ViewAnswer.the-variants as view
+use Rattle.model.specs.Answers.{refusal}
+use Rattle.answers.specs.Question.{questionOf}
+use Rattle.numbered.specs.declared.YkChange.{YkChange}
+use Rattle.numbered.specs.declared.YkPosition.{YkPosition}
+use Rattle.numbered.specs.declared.YkTable.{YkTable}
+use Rattle.numbered.specs.declared.YkView.{YkView}
+use Rattle.numbered.specs.Answers.{numberOf, recordIn, recordOf, changeOut, positionOut, laterOf, tableOut, placeOut, areaOut, spanOf, viewOut}
+
+-- every refusal's number, as 01 numbers its questions
+abbrev refusals : List Refusal
+refusals =
+    Header ∷ Order ∷ PageSize ∷ RowLimit ∷ Memory ∷ TimeNotAbove ∷ ArticlePresent ∷ ArticleAbsent ∷ RowsFull ∷ LogFull ∷ IndexFull ∷ TimeAfterLast ∷ OutputShort
+    ∷ NotToKeep ∷ CatalogueFull ∷ NotKept ∷ WrongRecord (record { 0 = 33 }) ∷ []
+
+numbers-are : map numberOf refusals ≡ 1 ∷ 2 ∷ 3 ∷ 4 ∷ 5 ∷ 6 ∷ 7 ∷ 8 ∷ 9 ∷ 10 ∷ 11 ∷ 12 ∷ 13 ∷ 14 ∷ 15 ∷ 16 ∷ 17 ∷ []
+unfolding questionOf refusal
+numbers-are = refl
+
+abbrev s : Numbers
+s = record { order = 3; page = 2; limit = 4; records = 8; last = 60; live = 5; files = 1 }
+
+changed : changeOut s verdict.Accepted ≡ record { numbers = s; question = 0; «record» = 0 }
+unfolding changeOut
+changed = refl
+
+wrong : changeOut s (verdict.Refused (WrongRecord (record { 0 = 33 }))) ≡ record { numbers = s; question = 17; «record» = 33 }
+unfolding changeOut questionOf recordIn refusal
+wrong = refl
+
+placed : positionOut (position.At (record { page = record { 0 = 7 } })) ≡ record { question = 0; page = 7 }
+unfolding positionOut
+placed = refl
+
+later : tableOut (table.Table 11 Later 13) ≡ record { question = 0; rows = 11; later = 1; distance = 13 }
+unfolding tableOut laterOf
+later = refl
+
+-- R = 4, 100 bytes of areas, a table of 32: file 2 with 3 rows, its part bytes 64 to 87
+in-area : viewOut 4 100 32 (view.Outset (Area 2) 3 Later 5) ≡ record { question = 0; place = 1; area = 2; rows = 3; later = 1; distance = 5; start = 64; length = 24 }
+unfolding viewOut spanOf placeOut areaOut laterOf
+in-area = refl
+
+-- the last area lent is cut
+cut : viewOut 4 100 32 (view.Outset (Area 3) 6 Earlier 5) ≡ record { question = 0; place = 1; area = 3; rows = 6; later = 0; distance = 5; start = 96; length = 4 }
+unfolding viewOut spanOf placeOut areaOut laterOf
+cut = refl
+
+in-table : viewOut 4 100 32 (view.Outset Current 3 Later 5) ≡ record { question = 0; place = 2; area = 0; rows = 3; later = 1; distance = 5; start = 0; length = 24 }
+unfolding viewOut spanOf placeOut areaOut laterOf
+in-table = refl
+
+empty : viewOut 4 100 32 (view.Outset Empty 0 Earlier 5) ≡ record { question = 0; place = 0; area = 0; rows = 0; later = 0; distance = 5; start = 0; length = 0 }
+unfolding viewOut spanOf placeOut areaOut laterOf
+empty = refl

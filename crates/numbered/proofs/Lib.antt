@@ -1,0 +1,4 @@
+pub mod Lengths
+pub mod Crossings
+pub mod Spans
+pub mod AnswerCases

@@ -1,0 +1,27 @@
+-- `numbered::view` meets its contract. Assumes nothing.
+use Rattle.numbered.proofs.Spans.{span-part}
+use borrow.Author.Needs.{needs}
+use Rattle.numbered.proofs.view.Statement.{statement}
+use Rattle.numbered.proofs.view.Tie as tie
+use Rattle.numbered.proofs.view_out.Reads as view-out-reads
+use Rattle.tables.proofs.view.Reads as view-reads
+
+view-requires : tie.Need-view-requires
+view-requires c κs = search needs
+
+view-out-requires : tie.Need-view-out-requires
+view-out-requires c κs = search needs
+
+returns : tie.Need-returns
+returns c catalogue e =
+    let v = c .before in
+    let a = v .before .before .before .before .before .args in
+    record {
+      answer = v .view .result;
+      is = c .view-out .ensures;
+      kept =
+          rw (c .view-out .ensures, ← span-part (a .s .limit) (a .areas .now) (a .current .now) (v .view .result)) (v .view .ensures catalogue e);
+    }
+
+pub view-spec : {M : Type 1} → statement M
+view-spec = tie.close (tie.spec view-requires view-out-requires returns)

@@ -1,0 +1,105 @@
+-- The answers in numbers: for each answer of a call the numbers that cross to C in its place, the question answered no by its
+-- number in 01. Computed cases in which all fields differ are in proofs/AnswerCases. Assumes nothing.
+use Prim.Native.Nat.{ℕ, _-_, _*_, min}
+use mathlib.Core.Bool.{Bool, cond}
+use Rattle.model.specs.declared.Numbers.{Numbers}
+use Rattle.model.specs.declared.Refusal.{Refusal}
+use Rattle.model.specs.declared.Verdict.{Verdict}
+use Rattle.model.specs.declared.Verdict.the-variants as verdict
+use Rattle.model.specs.declared.PositionAnswer.{PositionAnswer}
+use Rattle.model.specs.declared.PositionAnswer.the-variants as position
+use Rattle.model.specs.declared.Side.{Side}
+use Rattle.model.specs.declared.Side.the-variants.{Earlier, Later}
+use Rattle.model.specs.declared.Place.{Place}
+use Rattle.model.specs.declared.Place.the-variants.{Empty, Area, Current}
+use Rattle.model.specs.declared.TableAnswer.{TableAnswer}
+use Rattle.model.specs.declared.TableAnswer.the-variants as table
+use Rattle.model.specs.declared.ViewAnswer.{ViewAnswer}
+use Rattle.model.specs.declared.ViewAnswer.the-variants as view
+use Rattle.model.specs.declared.NetChangeAnswer.{NetChangeAnswer}
+use Rattle.model.specs.declared.NetChangeAnswer.the-variants as net
+use Rattle.model.specs.Answers.{Outcome, answers, refuses, refusesAt, refusal}
+use Rattle.answers.specs.Question.{questionOf}
+use Rattle.numbered.specs.declared.YkChange.{YkChange}
+use Rattle.numbered.specs.declared.YkPosition.{YkPosition}
+use Rattle.numbered.specs.declared.YkTable.{YkTable}
+use Rattle.numbered.specs.declared.YkView.{YkView}
+use Rattle.numbered.specs.declared.YkNetChange.{YkNetChange}
+use Rattle.numbered.specs.declared.Span.{Span}
+
+-- the number of the question answered no
+abbrev pub numberOf : Refusal → ℕ
+numberOf why = questionOf {A = Unit} (refusal why)
+
+-- the record number that comes with it, 0 if there is none
+unfoldable pub recordIn : {A : Type 0} → Outcome A → ℕ
+recordIn (answers x) = 0
+recordIn (refuses k) = 0
+recordIn (refusesAt k r) = r
+
+abbrev pub recordOf : Refusal → ℕ
+recordOf why = recordIn {A = Unit} (refusal why)
+
+unfoldable pub changeOut : Numbers → Verdict → YkChange
+changeOut s verdict.Accepted = record { numbers = s; question = 0; «record» = 0 }
+changeOut s (verdict.Refused why) = record { numbers = s; question = numberOf why; «record» = recordOf why }
+
+unfoldable pub positionOut : PositionAnswer → YkPosition
+positionOut (position.At p) = record { question = 0; page = p .page .0 }
+positionOut (position.Refused why) = record { question = numberOf why; page = 0 }
+
+-- 1 for the later side
+unfoldable pub laterOf : Side → ℕ
+laterOf Earlier = 0
+laterOf Later = 1
+
+unfoldable pub tableOut : TableAnswer → YkTable
+tableOut (table.Table rows side distance) = record { question = 0; rows = rows; later = laterOf side; distance = distance }
+tableOut (table.Refused why) = record { question = numberOf why; rows = 0; later = 0; distance = 0 }
+
+-- ---- the view
+
+-- the kind of a place, and the number of its area
+unfoldable pub placeOut : Place → ℕ
+placeOut Empty = 0
+placeOut (Area i) = 1
+placeOut Current = 2
+
+unfoldable pub areaOut : Place → ℕ
+areaOut Empty = 0
+areaOut (Area i) = i
+areaOut Current = 0
+
+abbrev pub span : ℕ → ℕ → Span
+span start length = record { start = start; length = length }
+
+-- the part that so many rows at a place are, of areas and a current table of these lengths: cut where the bytes end
+unfoldable pub spanOf : (R areas current : ℕ) → Place → ℕ → Span
+spanOf R areas current Empty rows = span 0 0
+spanOf R areas current (Area i) rows = let at = min (8 * R * i) areas in span at (min (8 * rows) (areas - at))
+spanOf R areas current Current rows = span 0 (min (8 * rows) current)
+
+unfoldable pub viewOut : (R areas current : ℕ) → ViewAnswer → YkView
+viewOut R areas current (view.Outset place rows side distance) =
+    record {
+      question = 0;
+      place = placeOut place;
+      area = areaOut place;
+      rows = rows;
+      later = laterOf side;
+      distance = distance;
+      start = spanOf R areas current place rows .start;
+      length = spanOf R areas current place rows .length;
+    }
+viewOut R areas current (view.Refused why) =
+    record { question = numberOf why; place = 0; area = 0; rows = 0; later = 0; distance = 0; start = 0; length = 0 }
+
+-- ---- net change and audit
+
+unfoldable pub netChangeOut : NetChangeAnswer → YkNetChange
+netChangeOut (net.Entries k) = record { question = 0; entries = k }
+netChangeOut (net.Refused why) = record { question = numberOf why; entries = 0 }
+
+-- 1 for yes
+abbrev pub yesOut : Bool → ℕ
+yesOut yes = cond yes 1 0

@@ -1,0 +1,138 @@
+-- Lists of calls on 01's log: what each of the ten calls answers with 20 kept, and of which times a file is held along keeps and
+-- drops. Refusals told apart. Rows of the report's set. Assumes nothing.
+use Prim.Native.Nat.{ℕ, zero, suc, _≤_, _<_}
+use mathlib.Core.Path.{_≡_, refl, ap}
+use mathlib.Core.List.{List, [], _∷_, _++_, map}
+use mathlib.Core.Bool.{true, false}
+use native.Mathlib.Omega.{arith}
+use lib.ListN.{getD, replicate}
+use Rattle.model.specs.declared.Side.the-variants.{Earlier, Later}
+use Rattle.model.specs.declared.Place.the-variants.{Area}
+use Rattle.model.specs.Answers.{Outcome, answers, refuses, refusesAt, question}
+use Rattle.model.specs.Records.{noRecord}
+use Rattle.model.specs.Rows.{Row, row}
+use Rattle.model.specs.Timeslice.{InReport}
+use Rattle.model.specs.Memory.{State, state}
+use Rattle.model.specs.Queries.{positionOf}
+use Rattle.model.specs.Files.{filesOf, isKept, dropOf}
+use Rattle.model.specs.Promises.{isRefused, refusedAmong, Asked}
+use Rattle.model.specs.Calls.{Call, run, changed, positioned, written, viewed, netted, audited, answerOf}
+use Rattle.model.specs.Demands.{heldNext, heldAfter}
+use Rattle.worked.proofs.Computing.{computing}
+use Rattle.worked.proofs.WorkedLog.{workedRecords, worked, table20, table45, change20to45, told, changes, seen}
+use Rattle.worked.proofs.WorkedStore.{kept20}
+use Rattle.worked.proofs.QuestionOne.{unsound}
+
+-- ---- what each call answers
+
+-- with 20 kept, and log space for two records more
+abbrev roomy : State
+roomy =
+    let m = kept20 .memory in
+    state (kept20 .numbers) (record { log = m .log ++ replicate 45 7; index = m .index; table = m .table; catalogue = m .catalogue; areas = m .areas })
+
+each-answers : map (answerOf roomy)
+    (Call.insert 61 3 5 ∷ Call.insert 61 7 5 ∷ Call.delete 61 7 ∷ Call.delete 61 3 ∷ Call.update 61 9 8 ∷ Call.update 60 9 8 ∷ Call.position 35 ∷ Call.position 61
+    ∷ Call.table 45 (replicate 33 77) ∷ Call.view 20 ∷ Call.netChange 20 45 (replicate 97 77) (replicate 65 77) ∷ Call.keep 40 ∷ Call.keep 20
+    ∷ Call.drop 20 ∷ Call.drop 40 ∷ Call.audit ∷ [])
+    ≡ changed (answers tt) ∷ changed (refuses 7) ∷ changed (answers tt) ∷ changed (refuses 8) ∷ changed (answers tt) ∷ changed (refuses 6) ∷ positioned (answers 1)
+    ∷ positioned (refuses 12) ∷ written (told 1 Later 1 table45)
+    ∷ viewed (seen (Area 0) 2 Earlier 0 (3 ∷ 0 ∷ 0 ∷ 0 ∷ 12 ∷ 0 ∷ 0 ∷ 0 ∷ 7 ∷ 0 ∷ 0 ∷ 0 ∷ 50 ∷ 0 ∷ 0 ∷ 0 ∷ []))
+    ∷ netted (changes 3 change20to45 (table20 ++ table45)) ∷ changed (answers tt) ∷ changed (refuses 14) ∷ changed (answers tt) ∷ changed (refuses 16)
+    ∷ audited true ∷ []
+unfolding computing
+each-answers = refl
+
+-- an audit says no to a live row more than R
+audit-denies : answerOf unsound Call.audit ≡ audited false
+unfolding computing
+audit-denies = refl
+
+-- ---- files held
+
+-- two files fill the catalogue, so the keep of 50 is refused, as is the drop of 30, which is not kept
+abbrev filed : List Call
+filed = Call.keep 20 ∷ Call.keep 40 ∷ Call.keep 50 ∷ Call.insert 55 1 1 ∷ Call.drop 20 ∷ Call.drop 30 ∷ []
+
+held-along : map (λ (t : ℕ). heldAfter t false worked filed) (20 ∷ 30 ∷ 40 ∷ 50 ∷ []) ≡ false ∷ false ∷ true ∷ false ∷ []
+unfolding computing
+held-along = refl
+
+-- before the drop both were held
+held-before : map (λ (t : ℕ). heldAfter t false worked (Call.keep 20 ∷ Call.keep 40 ∷ Call.keep 50 ∷ [])) (20 ∷ 30 ∷ 40 ∷ 50 ∷ []) ≡ true ∷ false ∷ true ∷ false ∷ []
+unfolding computing
+held-before = refl
+
+-- and so the catalogue says
+files-say : map (λ (t : ℕ). isKept t (filesOf (run worked filed))) (20 ∷ 30 ∷ 40 ∷ 50 ∷ []) ≡ false ∷ false ∷ true ∷ false ∷ []
+unfolding computing
+files-say = refl
+
+-- a refused drop ends nothing, a refused keep begins nothing, and another time's calls neither
+held-next : (heldNext 20 true worked (Call.drop 20) ∷ heldNext 61 false worked (Call.keep 61) ∷ heldNext 20 true kept20 (Call.drop 20) ∷ heldNext 40 true kept20 (Call.drop 20)
+    ∷ heldNext 40 false kept20 (Call.keep 40) ∷ heldNext 30 false kept20 (Call.keep 40) ∷ []) ≡ true ∷ false ∷ false ∷ true ∷ true ∷ false ∷ []
+unfolding computing
+held-next = refl
+
+-- ---- refusals
+
+refused-or-not : (isRefused {A = Unit} (answers tt) ∷ isRefused {A = Unit} (refuses 1) ∷ isRefused {A = Unit} (refusesAt 17 0) ∷ isRefused (dropOf worked 20 .outcome) ∷ [])
+    ≡ false ∷ true ∷ true ∷ true ∷ []
+unfolding computing
+refused-or-not = refl
+
+-- by which of these questions, however they are answered
+abbrev among : Outcome Unit → ℕ
+among o = refusedAmong (question 1 true ∷ question 12 false ∷ question 17 true ∷ []) o
+
+refused-among : (among (answers tt) ∷ among (refuses 1) ∷ among (refuses 12) ∷ among (refuses 13) ∷ among (refusesAt 17 4) ∷ among (refuses 0) ∷ [])
+    ≡ 0 ∷ 1 ∷ 12 ∷ 0 ∷ 17 ∷ 0 ∷ []
+unfolding computing
+refused-among = refl
+
+-- question 1 answered no; another no; none
+asked-unsound : Asked unsound (positionOf unsound 11)
+unfolding computing
+asked-unsound = record { standing-first = refl; never-17 = refl }
+
+asked-late : Asked worked (positionOf worked 61)
+unfolding computing
+asked-late = record { standing-first = refl; never-17 = refl }
+
+asked-in-time : Asked worked (positionOf worked 60)
+unfolding computing
+asked-in-time = record { standing-first = refl; never-17 = refl }
+
+-- ---- the report's set
+
+-- 7:44 of time 30 is in the set for 45: the deletion of 7 is of time 30 too, which is no later time
+in-report : InReport 45 (row 7 44) workedRecords
+in-report = record { place = 3; in-log = omega arith; inserts = refl; in-time = omega arith; row-is = refl; not-countered = later }
+  where
+    later : (u : ℕ) → u < 8 → getD workedRecords u noRecord .article ≡ 7 → 30 < getD workedRecords u noRecord .time → getD workedRecords u noRecord .time ≤ 45 → ⊥
+    later zero h e a l = omega arith
+    later (suc zero) h e a l = omega arith
+    later (suc (suc zero)) h e a l = omega arith
+    later (suc (suc (suc zero))) h e a l = omega arith
+    later (suc (suc (suc (suc zero)))) h e a l = omega arith
+    later (suc (suc (suc (suc (suc zero))))) h e a l = omega arith
+    later (suc (suc (suc (suc (suc (suc zero)))))) h e a l = omega arith
+    later (suc (suc (suc (suc (suc (suc (suc zero))))))) h e a l = omega arith
+    later (suc (suc (suc (suc (suc (suc (suc (suc u)))))))) h e a l = omega arith
+
+-- 7:50 of time 10 is not: 7 was deleted at time 30
+not-in-report : InReport 45 (row 7 50) workedRecords → ⊥
+not-in-report g = by (g .place) (g .in-log) (g .inserts) (ap (λ (q : Row). q .count) (g .row-is)) (g .not-countered)
+  where
+    by : (p : ℕ) → p < 8 → getD workedRecords p noRecord .kind ≡ 2 → getD workedRecords p noRecord .count ≡ 50
+        → ((u : ℕ) → u < 8 → getD workedRecords u noRecord .article ≡ getD workedRecords p noRecord .article
+        → getD workedRecords p noRecord .time < getD workedRecords u noRecord .time → getD workedRecords u noRecord .time ≤ 45 → ⊥) → ⊥
+    by zero h k c n = n 2 (omega arith) refl (omega arith) (omega arith)
+    by (suc zero) h k c n = omega arith
+    by (suc (suc zero)) h k c n = omega arith
+    by (suc (suc (suc zero))) h k c n = omega arith
+    by (suc (suc (suc (suc zero)))) h k c n = omega arith
+    by (suc (suc (suc (suc (suc zero))))) h k c n = omega arith
+    by (suc (suc (suc (suc (suc (suc zero)))))) h k c n = omega arith
+    by (suc (suc (suc (suc (suc (suc (suc zero))))))) h k c n = omega arith
+    by (suc (suc (suc (suc (suc (suc (suc (suc p)))))))) h k c n = omega arith

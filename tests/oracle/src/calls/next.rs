@@ -1,0 +1,100 @@
+//! How a list goes on: a call for the store as it is.
+
+use super::start::settings;
+use super::{near, Call, Plan};
+use crate::layout::{Record, Row, HEADER_BYTES, RECORD_BYTES, ROW_BYTES};
+use crate::log::log_length;
+use crate::random::Random;
+use crate::store::{Numbers, Store};
+use crate::table::table_length;
+
+/// The next call of a list, for the store as it is.
+pub fn call(random: &mut Random, plan: &Plan, store: &Store) -> Call {
+    let Numbers { order, last, row_limit, .. } = store.numbers;
+    if random.percent(plan.damage) {
+        return Call::Damage(random.next());
+    }
+    // after a refused start, mostly another one, or a stranger's
+    if order == 0 && random.percent(80) {
+        if random.percent(40) {
+            return Call::Damage(random.next());
+        }
+        return Call::Fresh(random.from(2, 5) as u16, random.from(2, 4) as u16, random.from(1, 6) as u32);
+    }
+    let t = time(random, store);
+    if random.percent(plan.appends) {
+        let next = if random.percent(94) { last.saturating_add(random.from(1, plan.step)) } else { t };
+        return append(random, plan, store, next);
+    }
+    if random.percent(plan.files) {
+        let keeps = random.percent(plan.keeps);
+        return if keeps { Call::Keep(t) } else { Call::Drop(kept_time(random, store).unwrap_or(t)) };
+    }
+    let length = table_length(row_limit.min(1024));
+    match random.from(0, 99) {
+        0..=14 => Call::Position(t),
+        15..=39 => Call::Table(t, near(random, length)),
+        40..=59 => Call::View(t),
+        60..=82 => {
+            let (output, workspace) = (near(random, 3 * length), near(random, 2 * length));
+            Call::NetChange(t, time(random, store), output, workspace)
+        }
+        83..=93 => Call::Audit,
+        94..=97 => Call::Open,
+        _ => {
+            let (order, page_size, row_limit) = settings(random);
+            Call::Fresh(order, page_size, row_limit)
+        }
+    }
+}
+
+/// An insertion, a deletion or an update at this time.
+fn append(random: &mut Random, plan: &Plan, store: &Store, time: u64) -> Call {
+    let count = random.next() as u32;
+    match random.from(0, 99) {
+        0..=53 => Call::Insert(time, article(random, plan, store, 20), count),
+        54..=73 => Call::Delete(time, article(random, plan, store, 85)),
+        _ => Call::Update(time, article(random, plan, store, 85), count),
+    }
+}
+
+/// In a hundred times, so often an article that is present; else any of the plan's.
+fn article(random: &mut Random, plan: &Plan, store: &Store, present: u64) -> u32 {
+    let rows = store.memory.table.len() / ROW_BYTES;
+    let live = rows.min(store.numbers.live as usize);
+    if live > 0 && random.percent(present) {
+        return Row::read(&store.memory.table[ROW_BYTES * random.place(live)..]).article;
+    }
+    random.from(0, plan.articles as u64) as u32
+}
+
+/// A time between the requests, at one or beside it, at a count file or beside it, at an end, or past the last.
+fn time(random: &mut Random, store: &Store) -> u64 {
+    let last = store.numbers.last;
+    let place = match random.from(0, 7) {
+        0 => return random.pick(&[0, 1, last, last.saturating_sub(1), last.saturating_add(1), u64::MAX]),
+        1 => return last.saturating_add(random.from(1, 9)),
+        2..=3 => request_time(random, store),
+        4 => kept_time(random, store),
+        _ => None,
+    };
+    match place {
+        Some(t) => random.pick(&[t, t, t.saturating_sub(1), t.saturating_add(1)]),
+        None => random.from(0, last),
+    }
+}
+
+/// The time of one of the log's records, as far as the lent bytes go.
+fn request_time(random: &mut Random, store: &Store) -> Option<u64> {
+    let lent = store.memory.log.len().saturating_sub(HEADER_BYTES) / RECORD_BYTES;
+    let records = lent.min(store.numbers.records as usize);
+    let place = (records > 0).then(|| log_length(random.place(records) as u32))?;
+    Some(Record::read(&store.memory.log[place..place + RECORD_BYTES]).time)
+}
+
+/// The time of one of the count files, as far as the lent entries go.
+fn kept_time(random: &mut Random, store: &Store) -> Option<u64> {
+    let catalogue = &store.memory.catalogue;
+    let files = catalogue.len().min(store.numbers.files as usize);
+    (files > 0 && random.percent(85)).then(|| catalogue[random.place(files)].time)
+}

@@ -1,0 +1,75 @@
+//! What the calls answer in C, as Rust has it. A refused call has zeros beside the question; anything that no
+//! call may answer stops the program.
+
+use super::c::{YkChange, YkNetChange, YkPosition, YkTable, YkView};
+use crate::outset::{Place, Side};
+use crate::store::{Refusal, TableAnswer, View};
+
+/// The answer without its numbers.
+pub fn change(answer: YkChange) -> Result<(), Refusal> {
+    match answer {
+        YkChange { question: 0, record: 0, .. } => Ok(()),
+        YkChange { question: question @ 17, record, .. } => Err(Refusal { question, record: Some(record) }),
+        YkChange { question: question @ 1..=16, record: 0, .. } => refused(question),
+        other => panic!("{other:?} is no answer"),
+    }
+}
+
+pub fn position(answer: YkPosition) -> Result<u32, Refusal> {
+    match answer {
+        YkPosition { question: 0, page } => Ok(page),
+        YkPosition { question: question @ 1..=16, page: 0 } => refused(question),
+        other => panic!("{other:?} is no answer"),
+    }
+}
+
+pub fn table(answer: YkTable) -> Result<TableAnswer, Refusal> {
+    match answer {
+        YkTable { question: 0, rows, later, distance } => {
+            Ok(TableAnswer { rows, side: side(later), distance })
+        }
+        YkTable { question: question @ 1..=16, rows: 0, later: 0, distance: 0 } => refused(question),
+        other => panic!("{other:?} is no answer"),
+    }
+}
+
+pub fn view(answer: YkView) -> Result<View, Refusal> {
+    let YkView { question, place, area, rows, later, distance, start, length } = answer;
+    let place = match (question, place, area) {
+        (0, 0, 0) => Place::Empty,
+        (0, 1, area) => Place::File(area as usize),
+        (0, 2, 0) => Place::Current,
+        (1..=16, 0, 0) if (rows, later, distance, start, length) == (0, 0, 0, 0, 0) => {
+            return refused(question)
+        }
+        _ => panic!("{answer:?} is no answer"),
+    };
+    Ok(View { place, rows, start, length, side: side(later), distance })
+}
+
+pub fn net_change(answer: YkNetChange) -> Result<u32, Refusal> {
+    match answer {
+        YkNetChange { question: 0, entries } => Ok(entries),
+        YkNetChange { question: question @ 1..=16, entries: 0 } => refused(question),
+        other => panic!("{other:?} is no answer"),
+    }
+}
+
+pub fn yes(answer: u8) -> bool {
+    match answer {
+        0 | 1 => answer == 1,
+        other => panic!("{other} is neither yes nor no"),
+    }
+}
+
+fn side(later: u8) -> Side {
+    if yes(later) {
+        Side::Later
+    } else {
+        Side::Earlier
+    }
+}
+
+fn refused<T>(question: u8) -> Result<T, Refusal> {
+    Err(Refusal { question, record: None })
+}

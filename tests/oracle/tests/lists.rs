@@ -1,0 +1,189 @@
+//! The random lists of calls that two stores are compared by: they meet every call, every question, every
+//! capacity, and memory that the audit denies.
+
+use oracle::calls::{call, damage, start, Call, Plan};
+use oracle::limits::{ORDERS, PAGE_SIZES};
+use oracle::outset::{Place, Side};
+use oracle::random::Random;
+use oracle::store::{Refusal, Store};
+use std::collections::{BTreeMap, BTreeSet};
+use std::sync::OnceLock;
+
+/// What lists met.
+#[derive(Default)]
+struct Met {
+    /// how often a call ended by this question, 0 where it was accepted
+    ends: BTreeMap<(&'static str, u8), u32>,
+    /// calls on memory that question 1 passes and the audit denies
+    denied: BTreeMap<&'static str, u32>,
+    orders: BTreeSet<u16>,
+    page_sizes: BTreeSet<u16>,
+    row_limits: BTreeSet<u32>,
+    /// capacity and files of accepted keeps
+    keeps: BTreeSet<(usize, u32)>,
+    /// count files before and after the one dropped
+    drops: BTreeSet<(usize, usize)>,
+    audits: [u32; 2],
+    /// place without its number, side, and whether the distance is 0
+    views: BTreeMap<(&'static str, bool, bool), u32>,
+    empty_net_changes: u32,
+    net_changes: u32,
+}
+
+fn name(call: &Call) -> &'static str {
+    match call {
+        Call::Fresh(..) => "fresh store",
+        Call::Open => "opening",
+        Call::Insert(..) => "insert",
+        Call::Delete(..) => "delete",
+        Call::Update(..) => "update",
+        Call::Position(_) => "position",
+        Call::Table(..) => "table",
+        Call::View(_) => "view",
+        Call::NetChange(..) => "net change",
+        Call::Keep(_) => "keep",
+        Call::Drop(_) => "drop",
+        Call::Audit => "audit",
+        Call::Damage(_) => "damage",
+    }
+}
+
+/// Makes the call on the oracle and notes what it meets.
+fn make(store: &mut Store, call: Call, met: &mut Met) -> Result<(), Refusal> {
+    match call {
+        Call::Fresh(order, page_size, row_limit) => store.fresh(order, page_size, row_limit),
+        Call::Open => store.open(),
+        Call::Insert(time, article, count) => store.insert(time, article, count),
+        Call::Delete(time, article) => store.delete(time, article),
+        Call::Update(time, article, count) => store.update(time, article, count),
+        Call::Position(t) => store.position(t).map(drop),
+        Call::Table(t, length) => store.table(t, &mut vec![0; length]).map(drop),
+        Call::View(t) => store.view(t).map(|view| {
+            let place = match view.place {
+                Place::Empty => "empty",
+                Place::File(_) => "area",
+                Place::Current => "current",
+            };
+            *met.views.entry((place, view.side == Side::Later, view.distance == 0)).or_default() += 1;
+        }),
+        Call::NetChange(a, b, output, workspace) => {
+            store.net_change(a, b, &mut vec![0; output], &mut vec![0; workspace]).map(|entries| {
+                met.net_changes += 1;
+                met.empty_net_changes += (entries == 0) as u32;
+            })
+        }
+        Call::Keep(t) => store.keep(t).map(|()| {
+            met.keeps.insert((store.capacity(), store.numbers.files));
+        }),
+        Call::Drop(t) => {
+            let before = store.clone();
+            store.drop_file(t).map(|()| {
+                let place = before.kept().iter().position(|entry| entry.time == t).unwrap();
+                met.drops.insert((place, before.kept().len() - place - 1));
+            })
+        }
+        Call::Audit => {
+            met.audits[store.audit() as usize] += 1;
+            Ok(())
+        }
+        Call::Damage(seed) => {
+            damage(store, seed);
+            Ok(())
+        }
+    }
+}
+
+fn list(random: &mut Random, met: &mut Met) {
+    let (memory, first) = start(random);
+    let plan = Plan::new(random);
+    let mut store = Store::over(memory);
+    let (mut next, mut damaged) = (first, false);
+    for _ in 0..plan.calls {
+        damaged |= matches!(next, Call::Damage(_));
+        if damaged && store.position(0).is_ok() && !store.audit() {
+            *met.denied.entry(name(&next)).or_default() += 1;
+        }
+        let question = make(&mut store, next, met).map_or_else(|refusal| refusal.question, |()| 0);
+        *met.ends.entry((name(&next), question)).or_default() += 1;
+        met.orders.insert(store.numbers.order);
+        met.page_sizes.insert(store.numbers.page_size);
+        met.row_limits.insert(store.numbers.row_limit);
+        next = call(random, &plan, &store);
+    }
+}
+
+/// What 3,000 lists met.
+fn lists() -> &'static Met {
+    static MET: OnceLock<Met> = OnceLock::new();
+    MET.get_or_init(|| {
+        let mut met = Met::default();
+        for number in 0..3000 {
+            list(&mut Random::for_case(2055, number), &mut met);
+        }
+        met
+    })
+}
+
+/// All of a call's questions, and its acceptance.
+#[test]
+fn every_call_ends_by_every_question() {
+    let met = lists();
+    let calls = [
+        Call::Fresh(0, 0, 0),
+        Call::Open,
+        Call::Insert(0, 0, 0),
+        Call::Delete(0, 0),
+        Call::Update(0, 0, 0),
+        Call::Position(0),
+        Call::Table(0, 0),
+        Call::View(0),
+        Call::NetChange(0, 0, 0, 0),
+        Call::Keep(0),
+        Call::Drop(0),
+    ];
+    for call in calls {
+        for &question in [0].iter().chain(call.questions()) {
+            let often = met.ends.get(&(name(&call), question));
+            assert!(often.is_some_and(|often| *often >= 10), "{} by {question}: {often:?}", name(&call));
+        }
+        let asked = met.ends.keys().filter(|(of, _)| *of == name(&call)).count();
+        assert_eq!(asked, 1 + call.questions().len(), "{}", name(&call));
+    }
+    assert!(met.audits.iter().all(|often| *often > 100));
+}
+
+#[test]
+fn settings_and_sizes_are_varied() {
+    let met = lists();
+    assert!(ORDERS.chain([0]).all(|order| met.orders.contains(&order)));
+    assert!(PAGE_SIZES.chain([0]).all(|page_size| met.page_sizes.contains(&page_size)));
+    assert!(met.row_limits.contains(&1) && met.row_limits.contains(&1024) && met.row_limits.len() > 100);
+    // each capacity was filled to its last file
+    assert!((1..=16).all(|files| met.keeps.contains(&(files as usize, files))));
+    // the first file of several, one of the middle, the last
+    assert!(met.drops.iter().any(|&(before, after)| before == 0 && after >= 3));
+    assert!(met.drops.iter().any(|&(before, after)| before >= 3 && after >= 3));
+    assert!(met.drops.iter().any(|&(before, after)| before >= 3 && after == 0));
+}
+
+/// All outsets there are, and both net changes that have no entry and those that have some.
+#[test]
+fn answers_are_varied() {
+    let met = lists();
+    for (place, later) in [("empty", false), ("area", false), ("area", true), ("current", true)] {
+        for no_distance in [false, true] {
+            assert!(met.views[&(place, later, no_distance)] > 50, "{place}, later: {later}");
+        }
+    }
+    assert!(met.empty_net_changes > 100 && met.net_changes > 2 * met.empty_net_changes);
+}
+
+/// Every later call, on memory that question 1 passes and the audit denies.
+#[test]
+fn denied_memory_is_met() {
+    let met = lists();
+    for later in ["insert", "delete", "update", "position", "table", "view", "net change", "keep", "drop"] {
+        assert!(met.denied[later] > 100, "{later}");
+    }
+    assert!(met.denied["audit"] > 100);
+}
