@@ -1,5 +1,5 @@
 -- The audit's answer: what each no denies, and what all yes together grant. Assumes nothing.
-use Prim.Native.Nat.{ℕ, zero, suc, _+_, _-_, _≤_, _<_}
+use Prim.Native.Nat.{ℕ, zero, suc, _+_, _-_, _*_, _≤_, _<_}
 use mathlib.Core.Path.{_≡_, refl, sym, ap, _∙_}
 use mathlib.Core.List.{List, [], _∷_}
 use mathlib.Core.Bool.{Bool, true, false, false≢true}
@@ -27,7 +27,7 @@ use Rattle.catalogue.proofs.EntryLaws.{loaded-by-value}
 use Rattle.limits.specs.Fit.{Fit}
 use Rattle.tree_audit.specs.Times.{Decides}
 use Rattle.tree_audit.specs.Stands.{Auditable}
-use Rattle.auditing.specs.Walk.{LogStands, FilesFrom, ZeroEntries}
+use Rattle.auditing.specs.Walk.{LogStands, FilesFrom, ZeroEntries, TableReady, FilesReady}
 
 denied : (st : State) → (Audited st → ⊥) → false ≡ auditOf st
 denied st other = by (auditOf st) refl
@@ -53,6 +53,16 @@ tree-auditable log fit = record {
   log-long = omega (arith, fit .log-long, length-drop 24 log);
   index-long = fit .index-long;
 }
+
+module _ {s : Numbers} (log : List ℕ) {index table entries areas : ℕ} (fit : Fit s (length log) index table entries areas) where
+  log-long : 24 * s .records ≤ length (drop 24 log)
+  log-long = omega (arith, fit .log-long, length-drop 24 log)
+
+  pub table-ready : TableReady s (length (drop 24 log)) table
+  table-ready = record { limit-high = fit .in-range .limit-high; log-long = log-long; table-long = fit .table-long }
+
+  pub files-ready : FilesReady s (length (drop 24 log)) areas
+  files-ready = record { limit-high = fit .in-range .limit-high; log-long = log-long; files-few = fit .files-sixteen; areas-long = fit .areas-long }
 
 pub take-zeros : (k n : ℕ) → k ≤ n → take k (zeros n) ≡ zeros k
 take-zeros zero n h = refl
