@@ -5,6 +5,7 @@ use libc::STDIN_FILENO;
 use libc::STDOUT_FILENO;
 use model::Numbers;
 use model::PositionAnswer;
+use model::RecordNumber;
 use model::Refusal;
 use model::Side;
 use model::TableAnswer;
@@ -41,11 +42,11 @@ fn print_line(time: u64, page: u32, side: Side, rows: u32) {
     io::write_all(STDOUT_FILENO, b"\n");
 }
 
-// No count file is kept.
+// No count file is kept, and no entry is lent.
 fn no_files() -> Catalogue {
     Catalogue {
-        times: [0; 16],
-        rows: [0; 16],
+        entries: [catalogue::no_entry(); 16],
+        lent: 0,
     }
 }
 
@@ -70,7 +71,7 @@ fn list_time(
         rows,
         side,
         distance: _,
-    } = tables::table(s, log, index, current, no_files(), 0, none, t, out)
+    } = tables::table(s, log, index, current, no_files(), none, t, out)
     else {
         return;
     };
@@ -82,7 +83,7 @@ fn list(s: Numbers, log: &[u8], index: &[u64], current: &[u8], out: &mut [u8]) {
     let mut last: u64 = 0;
     let mut k: u32 = 0;
     while k < 65536 {
-        let Step::Next(r) = reader::step_at(log, k) else {
+        let Step::Next(r) = reader::record_of(log, RecordNumber(k)) else {
             return;
         };
         list_time(s, log, index, current, r.time, last, out);
