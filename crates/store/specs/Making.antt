@@ -1,0 +1,56 @@
+-- A call by value, and what it answers, as those of model/specs/Calls: one variant for each of its constructors. `MadeAs`
+-- is what the dispatcher's contract cites. Assumes nothing.
+use Prim.Native.Nat.{ℕ}
+use mathlib.Core.Path.{_≡_}
+use mathlib.Core.List.{List}
+use Rattle.model.specs.declared.Numbers.{Numbers}
+use Rattle.model.specs.declared.Entry.{Entry}
+use Rattle.model.specs.Answers.{verdictOutcome, positionOutcome, tableOutcome, viewOutcome, netChangeOutcome}
+use Rattle.model.specs.Memory.{Memory, State, state}
+use Rattle.model.specs.Calls as calls
+use Rattle.model.specs.Chains.{Carried}
+use Rattle.tables.specs.Parts.{viewedPart}
+use Rattle.store.specs.declared.Call.{Call}
+use Rattle.store.specs.declared.Call.the-variants.{Insert, Delete, Update, Position, Table, View, NetChange, Keep, Drop, Audit}
+use Rattle.store.specs.declared.Said.{Said}
+use Rattle.store.specs.declared.Said.the-variants as said
+
+-- the call, with the output and the workspace that it is lent
+unfoldable pub callOf : Call → (out work : List ℕ) → calls.Call
+callOf (Insert time article count) out work = calls.Call.insert time article count
+callOf (Delete time article) out work = calls.Call.delete time article
+callOf (Update time article count) out work = calls.Call.update time article count
+callOf (Position time) out work = calls.Call.position time
+callOf (Table time) out work = calls.Call.table time out
+callOf (View time) out work = calls.Call.view time
+callOf (NetChange a b) out work = calls.Call.netChange a b out work
+callOf (Keep time) out work = calls.Call.keep time
+callOf (Drop time) out work = calls.Call.drop time
+callOf Audit out work = calls.Call.audit
+
+-- the answer on a store of this row limit, areas and current table, with what output and workspace then hold
+unfoldable pub saidOf : ℕ → (areas current out' work' : List ℕ) → Said → calls.Said
+saidOf R areas current out' work' (said.Changed v) = calls.changed (verdictOutcome v)
+saidOf R areas current out' work' (said.Position x) = calls.positioned (positionOutcome x)
+saidOf R areas current out' work' (said.Table x) = calls.written (record { outcome = tableOutcome x; output = out' })
+saidOf R areas current out' work' (said.View x) = calls.viewed (record { outcome = viewOutcome x; rows = viewedPart R areas current x })
+saidOf R areas current out' work' (said.NetChange x) = calls.netted (record { outcome = netChangeOutcome x; output = out'; workspace = work' })
+saidOf R areas current out' work' (said.Audit b) = calls.audited b
+
+-- an output or a workspace that a call has no use for stays as it was
+unfoldable pub OutputsKept : Call → (out out' work work' : List ℕ) → Type 0
+OutputsKept (Insert time article count) out out' work work' = (out' ≡ out) × (work' ≡ work)
+OutputsKept (Delete time article) out out' work work' = (out' ≡ out) × (work' ≡ work)
+OutputsKept (Update time article count) out out' work work' = (out' ≡ out) × (work' ≡ work)
+OutputsKept (Position time) out out' work work' = (out' ≡ out) × (work' ≡ work)
+OutputsKept (Table time) out out' work work' = work' ≡ work
+OutputsKept (View time) out out' work work' = (out' ≡ out) × (work' ≡ work)
+OutputsKept (NetChange a b) out out' work work' = Unit
+OutputsKept (Keep time) out out' work work' = (out' ≡ out) × (work' ≡ work)
+OutputsKept (Drop time) out out' work work' = (out' ≡ out) × (work' ≡ work)
+OutputsKept Audit out out' work work' = (out' ≡ out) × (work' ≡ work)
+
+-- the call was made on st, answered x and left st'
+pub record MadeAs (call : Call) (st : State) (out work : List ℕ) (x : Said) (st' : State) (out' work' : List ℕ) : Type 0 where
+  pub carried : Carried st (callOf call out work) (saidOf (st .numbers .limit) (st .memory .areas) (st .memory .table) out' work' x) st'
+  pub outputs : OutputsKept call out out' work work'

@@ -1,0 +1,164 @@
+// A call by value, carried out by the call of its name: the tie from the theorems over lists of calls to the code that runs.
+// What it answers and leaves is what `Carried` of model/specs/Chains says of that call; the theorem `code-keeps` of claims
+// speaks of every list of such calls.
+ghost use mathlib.Core.Path.{_≡_};
+ghost use mathlib.Core.List.{List};
+ghost use Prim.Native.Nat.{ℕ};
+ghost use Rattle.model.specs.declared.Entry.{Entry};
+ghost use Rattle.model.specs.Promises.{storeOf};
+ghost use Rattle.catalogue.specs.Files.{byValue, writtenBack};
+ghost use Rattle.store.specs.declared.Said.the-variants as said;
+ghost use Rattle.store.specs.Making.{MadeAs};
+use catalogue::Catalogue;
+use filing::Filed;
+use model::Changed;
+use model::NetChangeAnswer;
+use model::Numbers;
+use model::PositionAnswer;
+use model::TableAnswer;
+use model::Verdict;
+use model::ViewAnswer;
+
+// The calls of a list (01, "Lists of calls"), with all that they are given but their memory.
+pub enum Call {
+    Insert {
+        time: u64,
+        article: u32,
+        count: u32,
+    },
+    Delete {
+        time: u64,
+        article: u32,
+    },
+    Update {
+        time: u64,
+        article: u32,
+        count: u32,
+    },
+    Position(u64),
+    Table(u64),
+    View(u64),
+    NetChange {
+        a: u64,
+        b: u64,
+    },
+    Keep(u64),
+    Drop(u64),
+    Audit,
+}
+
+// What a call answers.
+pub enum Said {
+    Changed(Verdict),
+    Position(PositionAnswer),
+    Table(TableAnswer),
+    View(ViewAnswer),
+    NetChange(NetChangeAnswer),
+    Audit(bool),
+}
+
+// The answer, and numbers and catalogue as they then are.
+pub struct Made {
+    pub numbers: Numbers,
+    pub catalogue: Catalogue,
+    pub said: Said,
+}
+
+// What a call that appends leaves: the catalogue stays.
+fn appended(r: Changed, c: Catalogue) -> Made
+    ensures { λ m. ⌜ m ≡ record { numbers = r .numbers; catalogue = c; said = said.Changed (r .verdict) } ⌝ }
+{
+    let verdict = r.verdict;
+    let numbers = r.numbers;
+    Made {
+        numbers,
+        catalogue: c,
+        said: Said::Changed(verdict),
+    }
+}
+
+fn filed(r: Filed) -> Made
+    ensures { λ m. ⌜ m ≡ record { numbers = r .numbers; catalogue = r .catalogue; said = said.Changed (r .verdict) } ⌝ }
+{
+    let verdict = r.verdict;
+    let numbers = r.numbers;
+    let catalogue = r.catalogue;
+    Made {
+        numbers,
+        catalogue,
+        said: Said::Changed(verdict),
+    }
+}
+
+// What a query or the audit leaves: the store stays.
+fn answered(s: Numbers, c: Catalogue, said: Said) -> Made
+    ensures { λ m. ⌜ m ≡ record { numbers = s; catalogue = c; said = said } ⌝ }
+{
+    Made {
+        numbers: s,
+        catalogue: c,
+        said,
+    }
+}
+
+// One call, made on the store and on an output and a workspace of its own.
+pub fn make(
+    call: Call,
+    s: Numbers,
+    log: &mut [u8],
+    index: &mut [u64],
+    current: &mut [u8],
+    c: Catalogue,
+    areas: &mut [u8],
+    out: &mut [u8],
+    work: &mut [u8],
+) -> Made
+    ensures { λ r. ⌜ ((catalogue : List Entry) → c ≡ byValue catalogue
+        → MadeAs call (storeOf s (now (log .entry)) (now (index .entry)) (now (current .entry)) catalogue (now (areas .entry))) (now (out .entry)) (now (work .entry))
+        (r .said) (storeOf (r .numbers) (now (log .exit)) (now (index .exit)) (now (current .exit)) (writtenBack catalogue (r .catalogue)) (now (areas .exit))) (now (out .exit)) (now (work .exit))) ⌝ }
+{
+    match call {
+        Call::Insert {
+            time,
+            article,
+            count,
+        } => appended(
+            appending::insert(s, log, index, current, c.lent, areas.len(), time, article, count),
+            c,
+        ),
+        Call::Delete { time, article } => appended(
+            appending::delete(s, log, index, current, c.lent, areas.len(), time, article),
+            c,
+        ),
+        Call::Update {
+            time,
+            article,
+            count,
+        } => appended(
+            appending::update(s, log, index, current, c.lent, areas.len(), time, article, count),
+            c,
+        ),
+        Call::Position(t) => {
+            let x = tables::position(s, log, index, current, c.lent, areas.len(), t);
+            answered(s, c, Said::Position(x))
+        }
+        Call::Table(t) => {
+            let x = tables::table(s, log, index, current, c, areas, t, out);
+            answered(s, c, Said::Table(x))
+        }
+        Call::View(t) => {
+            let x = tables::view(s, log, index, current, c, areas, t);
+            answered(s, c, Said::View(x))
+        }
+        Call::NetChange { a, b } => {
+            let x = comparing::net_change(s, log, index, current, c, areas, a, b, out, work);
+            answered(s, c, Said::NetChange(x))
+        }
+        Call::Keep(t) => filed(filing::keep(s, log, index, current, c, areas, t)),
+        Call::Drop(t) => filed(filing::drop(s, log, index, current, c, areas, t)),
+        Call::Audit => {
+            let passed = auditing::audit(s, log, index, current, c, areas);
+            answered(s, c, Said::Audit(passed))
+        }
+    }
+}
