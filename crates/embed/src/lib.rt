@@ -70,7 +70,17 @@ pub extern "C" fn yk_insert(
         (memoryOf (now (log .exit)) (now (index .exit)) (now (current .exit)) (now (entries .entry)) (now (areas .entry)))
         (insertOf (storeOf s (now (log .entry)) (now (index .entry)) (now (current .entry)) (now (entries .entry)) (now (areas .entry))) t article count) ⌝ }
 {
-    numbered::insert(s, log, index, current, entries::count(entries), areas.len(), t, article, count)
+    numbered::insert(
+        s,
+        log,
+        index,
+        current,
+        entries::count(entries),
+        areas.len(),
+        t,
+        article,
+        count,
+    )
 }
 
 #[no_mangle]
@@ -88,7 +98,16 @@ pub extern "C" fn yk_delete(
         (memoryOf (now (log .exit)) (now (index .exit)) (now (current .exit)) (now (entries .entry)) (now (areas .entry)))
         (deleteOf (storeOf s (now (log .entry)) (now (index .entry)) (now (current .entry)) (now (entries .entry)) (now (areas .entry))) t article) ⌝ }
 {
-    numbered::delete(s, log, index, current, entries::count(entries), areas.len(), t, article)
+    numbered::delete(
+        s,
+        log,
+        index,
+        current,
+        entries::count(entries),
+        areas.len(),
+        t,
+        article,
+    )
 }
 
 #[no_mangle]
@@ -107,7 +126,17 @@ pub extern "C" fn yk_update(
         (memoryOf (now (log .exit)) (now (index .exit)) (now (current .exit)) (now (entries .entry)) (now (areas .entry)))
         (updateOf (storeOf s (now (log .entry)) (now (index .entry)) (now (current .entry)) (now (entries .entry)) (now (areas .entry))) t article count) ⌝ }
 {
-    numbered::update(s, log, index, current, entries::count(entries), areas.len(), t, article, count)
+    numbered::update(
+        s,
+        log,
+        index,
+        current,
+        entries::count(entries),
+        areas.len(),
+        t,
+        article,
+        count,
+    )
 }
 
 #[no_mangle]
@@ -122,7 +151,8 @@ pub extern "C" fn yk_position(
 ) -> YkPosition
     ensures { λ r. ⌜ PositionCrossed r (storeOf s (now (log .entry)) (now (index .entry)) (now (current .entry)) (now (entries .entry)) (now (areas .entry))) t ⌝ }
 {
-    numbered::position(s, log, index, current, entries::count(entries), areas.len(), t)
+    let n = entries::count(entries);
+    numbered::position(s, log, index, current, n, areas.len(), t)
 }
 
 #[no_mangle]
@@ -138,7 +168,16 @@ pub extern "C" fn yk_table<'a>(
 ) -> YkTable
     ensures { λ r. ⌜ TableCrossed r (storeOf s (now (log .entry)) (now (index .entry)) (now (current .entry)) (now (entries .entry)) (now (areas .entry))) t (now (out .entry)) (now (out .exit)) ⌝ }
 {
-    numbered::table(s, log, index, current, entries::load(entries), areas, t, out)
+    numbered::table(
+        s,
+        log,
+        index,
+        current,
+        entries::load(entries),
+        areas,
+        t,
+        out,
+    )
 }
 
 #[no_mangle]
@@ -172,7 +211,18 @@ pub extern "C" fn yk_net_change<'a>(
     ensures { λ r. ⌜ NetChangeCrossed r (storeOf s (now (log .entry)) (now (index .entry)) (now (current .entry)) (now (entries .entry)) (now (areas .entry))) a b
         (now (out .entry)) (now (work .entry)) (now (out .exit)) (now (work .exit)) ⌝ }
 {
-    numbered::net_change(s, log, index, current, entries::load(entries), areas, a, b, out, work)
+    numbered::net_change(
+        s,
+        log,
+        index,
+        current,
+        entries::load(entries),
+        areas,
+        a,
+        b,
+        out,
+        work,
+    )
 }
 
 #[no_mangle]
