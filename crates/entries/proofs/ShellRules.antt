@@ -1,6 +1,7 @@
--- Rules for walks by hand of thin functions: those that read their parameters, call others, and return. The locals stand first in the
--- context, _i at 2 × i, and what is owned behind them: the tokens, what the parameters own, then what each call leaves. A call and
--- the return say at which places what they take stands. Assumes `Given`, and that the table of calls is monotone under a frame.
+-- Rules for walks by hand of thin functions: those that read their parameters, call others, and
+-- return. The locals stand first in the context, _i at 2 × i, and what is owned behind them: the
+-- tokens, what the parameters own, then what each call leaves. A call and the return say at which
+-- places what they take stands. Assumes `Given`, and that the table of calls is monotone under a frame.
 use Prim.Native.Nat.{ℕ, zero, suc}
 use mathlib.Core.Path.{_≡_, refl, sym, subst}
 use mathlib.Core.List.{List, [], _∷_, _++_}
