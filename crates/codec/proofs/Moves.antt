@@ -4,7 +4,7 @@ use mathlib.Core.Path.{_≡_, sym, ap, _∙_}
 use mathlib.Core.List.{List, _++_, append-assoc}
 use native.Mathlib.Omega.{arith}
 use native.Mathlib.Numerals.{add-one}
-use native.Mathlib.Nat.{suc-add, add-assoc}
+use native.Mathlib.Nat.{suc-add, add-zero, add-assoc}
 use lib.ListN.{length, take, drop, getD, set, length-append, length-drop, take-append-drop, List·getD-append}
 use borrow.Rule.Slice.PartMut.{putMid}
 use lib.Seq.{paste, drop-paste, paste-suc, length-paste, getD-drop, slice, slice-empty, slice-cons, length-slice, length-take-le, take-suc, getD-take, set-at, drop-cons, append-snoc}
@@ -112,3 +112,20 @@ module _ {A : Type 0} where
       let len : length (part a k xs) ≡ k = length-part a k xs h in
       part-copied a k xs at source n h (omega arith) g (e ∙ moved-down-put (part a k xs) at source n (omega arith))
       ∙ sym (moved-down-put xs (a + at) (a + source) n (omega arith))
+
+  -- the same where all of `&mut xs[a..e]` moved, by so many places
+  pub whole-part-up : (a e by : ℕ) (xs : List A) {ys : List A} → a + by ≤ e → e ≤ length xs
+      → ys ≡ movedUp (part a (e - a) xs) 0 (length (part a (e - a) xs) - by) by → putMid a (e - a) xs ys ≡ movedUp xs a (e - by) by
+  whole-part-up a e by xs h fits q =
+      let len : length (part a (e - a) xs) ≡ e - a = length-part a (e - a) xs (omega arith) in
+      let high : a + (e - a - by) ≡ e - by = omega arith in
+      part-moved-up a (e - a) xs 0 (e - a - by) by (omega arith) (omega arith) (omega arith) (q ∙ ap (λ (n : ℕ). movedUp (part a (e - a) xs) 0 (n - by) by) len)
+      ∙ rw (add-zero, high)
+
+  pub whole-part-down : (a e by : ℕ) (xs : List A) {ys : List A} → a + by ≤ e → e ≤ length xs
+      → ys ≡ movedDown (part a (e - a) xs) 0 by (length (part a (e - a) xs) - by) → putMid a (e - a) xs ys ≡ movedDown xs a (a + by) (e - (a + by))
+  whole-part-down a e by xs h fits q =
+      let len : length (part a (e - a) xs) ≡ e - a = length-part a (e - a) xs (omega arith) in
+      let n : e - a - by ≡ e - (a + by) = omega arith in
+      part-moved-down a (e - a) xs 0 by (e - a - by) (omega arith) (omega arith) (omega arith) (q ∙ ap (λ (m : ℕ). movedDown (part a (e - a) xs) 0 by (m - by)) len)
+      ∙ rw (add-zero, n)
