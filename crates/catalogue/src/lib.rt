@@ -1,16 +1,20 @@
-// The catalogue of count files by value (01, "Count files"): its capacity, and which count file is nearest to a time on
-// either side. How its entries are lent, and how they come here, is the crate `entries`.
+// The catalogue of count files by value (01, "Count files"): its capacity, which count file is nearest to a time on
+// either side, and its entries with one more or with fewer. How its entries are lent, and how they come here, is the
+// crate `entries`.
 ghost use mathlib.Core.Path.{_≡_};
 ghost use mathlib.Core.List.{List};
 ghost use mathlib.Core.Bool.{_&&_, cond};
-ghost use Prim.Native.Nat.{ℕ, _≤_, _<_, min};
-ghost use lib.ListN.{take, getD};
+ghost use Prim.Native.Nat.{ℕ, _-_, _≤_, _<_, min};
+ghost use lib.ListN.{length, take, getD, set, replicate};
 ghost use lib.Dec.{leb, ltb};
+ghost use Rattle.codec.specs.Parts.{put};
 ghost use Rattle.model.specs.declared.Entry.{Entry};
 ghost use Rattle.model.specs.Outset.{emptyTable, filesFrom, latest, earliest};
 ghost use Rattle.model.specs.Memory as memory;
 ghost use Rattle.model.specs.Memory.{noEntry};
+ghost use Rattle.model.specs.Files.{notOf};
 ghost use Rattle.catalogue.specs.Files.{Loaded};
+ghost use Rattle.catalogue.specs.Entries.{timeKept, placeOf, withEntries, entryPut, joined, entriesStaying, entriesClosed};
 ghost use Rattle.catalogue.specs.Places.{heldAt, PlaceWithin};
 use model::Entry;
 use model::Held;
@@ -21,6 +25,12 @@ use model::Settings;
 pub struct Catalogue {
     pub entries: [Entry; 16],
     pub lent: usize,
+}
+
+// A catalogue of which some files are let go, and how many stay.
+pub struct Left {
+    pub catalogue: Catalogue,
+    pub files: usize,
 }
 
 fn least(a: usize, b: usize) -> usize
@@ -123,3 +133,125 @@ pub fn later(c: Catalogue, files: usize, t: u64, current: Held) -> Held
     best
 }
 
+// ---- the entries with one more, or with fewer
+
+// An entry of no file.
+pub fn no_entry() -> Entry
+    ensures { λ r. ⌜ r ≡ noEntry ⌝ }
+{
+    Entry { time: 0, rows: 0 }
+}
+
+fn with_entry(c: Catalogue, i: usize, e: Entry) -> Catalogue
+    requires { ⌜ i < 16 ⌝ }
+    ensures { λ r. ⌜ r ≡ withEntries c (set (c .entries) i e) ⌝ }
+{
+    let mut d = c;
+    d.entries[i] = e;
+    d
+}
+
+// Whether a count file of time t is kept.
+pub fn is_kept(c: Catalogue, files: usize, t: u64) -> bool
+    requires { ⌜ files ≤ 16 ⌝ }
+    ensures { λ r. ⌜ r ≡ timeKept t (take files (c .entries)) ⌝ }
+{
+    let mut i = 0;
+    while i < files {
+        let file = entry_of(c, i);
+        if file.time == t {
+            return true;
+        }
+        i += 1;
+    }
+    false
+}
+
+// Where the file of time t goes: before the first whose time is not smaller.
+pub fn place(c: Catalogue, files: usize, t: u64) -> usize
+    requires { ⌜ files ≤ 16 ⌝ }
+    ensures is { λ r. ⌜ r ≡ placeOf t (take files (c .entries)) ⌝ }
+    ensures within { λ r. ⌜ r ≤ files ⌝ }
+{
+    let mut i = 0;
+    while i < files {
+        let next = entry_of(c, i);
+        if t <= next.time {
+            return i;
+        }
+        i += 1;
+    }
+    i
+}
+
+// The entries from place `at` on go up, from the last down, and e takes the place.
+pub fn inserted(c: Catalogue, files: usize, at: usize, e: Entry) -> Catalogue
+    requires { ⌜ at ≤ files ⌝ }
+    requires { ⌜ files < 16 ⌝ }
+    ensures { λ r. ⌜ r ≡ withEntries c (entryPut (c .entries) files at e) ⌝ }
+{
+    let mut d = c;
+    let mut i = files;
+    while at < i {
+        i -= 1;
+        d = with_entry(d, i + 1, entry_of(d, i));
+    }
+    with_entry(d, at, e)
+}
+
+// Whether the file of entry e stays where that of time t is let go.
+pub fn stays(e: Entry, t: u64) -> bool
+    ensures { λ r. ⌜ r ≡ notOf t e ⌝ }
+{
+    e.time != t
+}
+
+fn join(left: Left, e: Entry, t: u64) -> Left
+    requires { ⌜ left .files < 16 ⌝ }
+    ensures { λ r. ⌜ r ≡ joined (notOf t) left e ⌝ }
+{
+    if stays(e, t) {
+        return Left {
+            catalogue: with_entry(left.catalogue, left.files, e),
+            files: left.files + 1,
+        };
+    }
+    left
+}
+
+// Zero entries from `start` up to `end`.
+fn emptied(c: Catalogue, start: usize, end: usize) -> Catalogue
+    requires { ⌜ start ≤ end ⌝ }
+    requires { ⌜ end ≤ 16 ⌝ }
+    ensures { λ r. ⌜ r ≡ withEntries c (put (c .entries) start (replicate (end - start) noEntry)) ⌝ }
+{
+    let mut d = c;
+    let mut k = start;
+    while k < end {
+        d = with_entry(d, k, no_entry());
+        k += 1;
+    }
+    d
+}
+
+// Of the first `files` entries those that stay, closed up, and zero entries behind them.
+pub fn closed_up(c: Catalogue, files: usize, t: u64) -> Left
+    requires { ⌜ files ≤ 16 ⌝ }
+    ensures is { λ r. ⌜ r .catalogue ≡ withEntries c (entriesClosed (notOf t) files (c .entries)) ⌝ }
+    ensures count { λ r. ⌜ r .files ≡ length (entriesStaying (notOf t) (take files (c .entries))) ⌝ }
+    ensures within { λ r. ⌜ r .files ≤ files ⌝ }
+{
+    let mut left = Left {
+        catalogue: c,
+        files: 0,
+    };
+    let mut i = 0;
+    while i < files {
+        left = join(left, entry_of(c, i), t);
+        i += 1;
+    }
+    Left {
+        catalogue: emptied(left.catalogue, left.files, files),
+        files: left.files,
+    }
+}

@@ -1,3 +1,4 @@
 pub mod Bodies
-pub mod CallRules
 pub mod LentLaws
+pub mod ShellRules
+pub mod LentShared

@@ -17,3 +17,4 @@ pub mod PromiseLaws
 pub mod AppendLaws
 pub mod RecordLaws
 pub mod AuditLaws
+pub mod FileLaws

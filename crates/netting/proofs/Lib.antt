@@ -6,3 +6,4 @@ pub mod Netting
 pub mod Unique
 pub mod ChangeBytes
 pub mod Reading
+pub mod Passing

@@ -1,2 +1,3 @@
 pub mod Form
 pub mod Entries
+pub mod Merge

@@ -1,6 +1,7 @@
 -- The answers in numbers: for each answer of a call the numbers that cross to C in its place, the question answered no by its
 -- number in 01. Computed cases in which all fields differ are in proofs/AnswerCases. Assumes nothing.
 use Prim.Native.Nat.{ℕ, _-_, _*_, min}
+use mathlib.Core.Bool.{Bool, cond}
 use Rattle.model.specs.declared.Numbers.{Numbers}
 use Rattle.model.specs.declared.Refusal.{Refusal}
 use Rattle.model.specs.declared.Verdict.{Verdict}
@@ -15,12 +16,15 @@ use Rattle.model.specs.declared.TableAnswer.{TableAnswer}
 use Rattle.model.specs.declared.TableAnswer.the-variants as table
 use Rattle.model.specs.declared.ViewAnswer.{ViewAnswer}
 use Rattle.model.specs.declared.ViewAnswer.the-variants as view
+use Rattle.model.specs.declared.NetChangeAnswer.{NetChangeAnswer}
+use Rattle.model.specs.declared.NetChangeAnswer.the-variants as net
 use Rattle.model.specs.Answers.{Outcome, answers, refuses, refusesAt, refusal}
 use Rattle.answers.specs.Question.{questionOf}
 use Rattle.numbered.specs.declared.YkChange.{YkChange}
 use Rattle.numbered.specs.declared.YkPosition.{YkPosition}
 use Rattle.numbered.specs.declared.YkTable.{YkTable}
 use Rattle.numbered.specs.declared.YkView.{YkView}
+use Rattle.numbered.specs.declared.YkNetChange.{YkNetChange}
 use Rattle.numbered.specs.declared.Span.{Span}
 
 -- the number of the question answered no
@@ -89,3 +93,13 @@ viewOut R areas current (view.Outset place rows side distance) =
     }
 viewOut R areas current (view.Refused why) =
     record { question = numberOf why; place = 0; area = 0; rows = 0; later = 0; distance = 0; start = 0; length = 0 }
+
+-- ---- net change and audit
+
+unfoldable pub netChangeOut : NetChangeAnswer → YkNetChange
+netChangeOut (net.Entries k) = record { question = 0; entries = k }
+netChangeOut (net.Refused why) = record { question = numberOf why; entries = 0 }
+
+-- 1 for yes
+abbrev pub yesOut : Bool → ℕ
+yesOut yes = cond yes 1 0

@@ -13,15 +13,17 @@ use Rattle.model.specs.declared.Verdict.{Verdict}
 use Rattle.model.specs.declared.PositionAnswer.{PositionAnswer}
 use Rattle.model.specs.declared.TableAnswer.{TableAnswer}
 use Rattle.model.specs.declared.ViewAnswer.{ViewAnswer}
-use Rattle.model.specs.Answers.{verdictOutcome, positionOutcome, tableOutcome, viewOutcome}
+use Rattle.model.specs.declared.NetChangeAnswer.{NetChangeAnswer}
+use Rattle.model.specs.Answers.{verdictOutcome, positionOutcome, tableOutcome, viewOutcome, netChangeOutcome}
 use Rattle.model.specs.Memory.{Memory, State, state}
 use Rattle.model.specs.Starts.{After, after}
-use Rattle.model.specs.Promises.{AppendPromise, PositionPromise, TablePromise, ViewPromise}
+use Rattle.model.specs.Promises.{AppendPromise, FilesPromise, PositionPromise, TablePromise, ViewPromise, NetChangePromise}
 use Rattle.numbered.specs.declared.YkChange.{YkChange}
 use Rattle.numbered.specs.declared.YkPosition.{YkPosition}
 use Rattle.numbered.specs.declared.YkTable.{YkTable}
 use Rattle.numbered.specs.declared.YkView.{YkView}
-use Rattle.numbered.specs.Answers.{changeOut, positionOut, tableOut, viewOut}
+use Rattle.numbered.specs.declared.YkNetChange.{YkNetChange}
+use Rattle.numbered.specs.Answers.{changeOut, positionOut, tableOut, viewOut, netChangeOut}
 
 -- the memory of these lent regions
 abbrev pub memoryOf : (log index table : List ℕ) → List Entry → List ℕ → Memory
@@ -60,3 +62,15 @@ pub record ViewCrossed (r : YkView) (st : State) (t : ℕ) : Type 0 where
   pub answer : ViewAnswer
   pub is : r ≡ viewOut (st .numbers .limit) (length (st .memory .areas)) (length (st .memory .table)) answer
   pub kept : ViewPromise st t (viewOutcome answer) (partOf r (st .memory))
+
+pub record NetChangeCrossed (r : YkNetChange) (st : State) (a b : ℕ) (out work out' work' : List ℕ) : Type 0 where
+  pub answer : NetChangeAnswer
+  pub is : r ≡ netChangeOut answer
+  pub kept : NetChangePromise st a b out work (netChangeOutcome answer) out' work'
+
+-- keep and drop
+pub record FilesCrossed (files : ℕ) (r : YkChange) (st : State) (memory' : Memory) (defined : After) : Type 0 where
+  pub numbers : Numbers
+  pub verdict : Verdict
+  pub is : r ≡ changeOut numbers verdict
+  pub kept : FilesPromise files st (verdictOutcome verdict) (state numbers memory') defined

@@ -2,19 +2,23 @@
 // as its length; `embed` lends it as a slice of entries.
 ghost use mathlib.Core.Path.{_≡_};
 ghost use mathlib.Core.List.{List};
-ghost use Prim.Native.Nat.{ℕ, _≤_, min};
+ghost use Prim.Native.Nat.{ℕ, _+_, _≤_, min};
 ghost use lib.ListN.{length, replicate};
 ghost use Rattle.codec.specs.Parts.{put};
 ghost use Rattle.model.specs.declared.Entry.{Entry};
 ghost use Rattle.model.specs.Memory.{noEntry};
 ghost use Rattle.model.specs.Starts.{freshOf, openOf};
 ghost use Rattle.model.specs.Changes.{insertOf, deleteOf, updateOf};
+ghost use Rattle.model.specs.Files.{keepOf, dropOf};
+ghost use Rattle.model.specs.Audit.{auditOf};
 ghost use Rattle.model.specs.Promises.{storeOf};
-ghost use Rattle.catalogue.specs.Files.{byValue};
-ghost use Rattle.numbered.specs.Answers.{recordOf, changeOut, positionOut, laterOf, tableOut, placeOut, areaOut, spanOf, viewOut};
-ghost use Rattle.numbered.specs.Crossed.{memoryOf, StartCrossed, AppendCrossed, PositionCrossed, TableCrossed, ViewCrossed};
+ghost use Rattle.catalogue.specs.Files.{byValue, writtenBack};
+ghost use Rattle.numbered.specs.Answers.{recordOf, changeOut, positionOut, laterOf, tableOut, placeOut, areaOut, spanOf, viewOut, netChangeOut, yesOut};
+ghost use Rattle.numbered.specs.Crossed.{memoryOf, StartCrossed, AppendCrossed, PositionCrossed, TableCrossed, ViewCrossed, NetChangeCrossed, FilesCrossed};
 use answers::question;
 use catalogue::Catalogue;
+use filing::Filed;
+use model::NetChangeAnswer;
 use model::Numbers;
 use model::Place;
 use model::PositionAnswer;
@@ -63,10 +67,22 @@ pub struct YkView {
     pub length: usize,
 }
 
+#[repr(C)]
+pub struct YkNetChange {
+    pub question: u8,
+    pub entries: u32,
+}
+
 // What a start answers, and how many entries of the catalogue are to be cleared.
 pub struct Begun {
     pub change: YkChange,
     pub clears: usize,
+}
+
+// What keep or drop answers, and the catalogue to be written back.
+pub struct Refiled {
+    pub change: YkChange,
+    pub catalogue: Catalogue,
 }
 
 // A part of a region: its first byte and its length.
@@ -403,4 +419,109 @@ pub fn view(
 {
     let answer = tables::view(s, log, index, current, c, areas, t);
     view_out(s.limit, areas.len(), current.len(), answer)
+}
+
+// ---- net change, keep and drop, audit
+
+fn net_change_out(answer: NetChangeAnswer) -> YkNetChange
+    ensures { λ r. ⌜ r ≡ netChangeOut answer ⌝ }
+{
+    match answer {
+        NetChangeAnswer::Entries(k) => YkNetChange {
+            question: 0,
+            entries: k,
+        },
+        NetChangeAnswer::Refused(why) => YkNetChange {
+            question: question(why),
+            entries: 0,
+        },
+    }
+}
+
+pub fn net_change<'a>(
+    s: Numbers,
+    log: &[u8],
+    index: &[u64],
+    current: &'a [u8],
+    c: Catalogue,
+    areas: &'a [u8],
+    a: u64,
+    b: u64,
+    out: &mut [u8],
+    work: &mut [u8],
+) -> YkNetChange
+    ensures { λ r. ⌜ ((catalogue : List Entry) → c ≡ byValue catalogue
+        → NetChangeCrossed r (storeOf s (now (log .entry)) (now (index .entry)) (now (current .entry)) catalogue (now (areas .entry))) a b
+        (now (out .entry)) (now (work .entry)) (now (out .exit)) (now (work .exit))) ⌝ }
+{
+    net_change_out(comparing::net_change(s, log, index, current, c, areas, a, b, out, work))
+}
+
+fn refiled(x: Filed) -> Refiled
+    ensures { λ r. ⌜ (r .change ≡ changeOut (x .numbers) (x .verdict)) × (r .catalogue ≡ x .catalogue) ⌝ }
+{
+    let verdict = x.verdict;
+    let catalogue = x.catalogue;
+    Refiled {
+        change: change_out(x.numbers, verdict),
+        catalogue,
+    }
+}
+
+pub fn keep(
+    s: Numbers,
+    log: &[u8],
+    index: &[u64],
+    current: &[u8],
+    c: Catalogue,
+    areas: &mut [u8],
+    t: u64,
+) -> Refiled
+    ensures { λ r. ⌜ ((catalogue : List Entry) → c ≡ byValue catalogue
+        → FilesCrossed (s .files + 1) (r .change) (storeOf s (now (log .entry)) (now (index .entry)) (now (current .entry)) catalogue (now (areas .entry)))
+        (memoryOf (now (log .entry)) (now (index .entry)) (now (current .entry)) (writtenBack catalogue (r .catalogue)) (now (areas .exit)))
+        (keepOf (storeOf s (now (log .entry)) (now (index .entry)) (now (current .entry)) catalogue (now (areas .entry))) t)) ⌝ }
+{
+    refiled(filing::keep(s, log, index, current, c, areas, t))
+}
+
+pub fn drop(
+    s: Numbers,
+    log: &[u8],
+    index: &[u64],
+    current: &[u8],
+    c: Catalogue,
+    areas: &mut [u8],
+    t: u64,
+) -> Refiled
+    ensures { λ r. ⌜ ((catalogue : List Entry) → c ≡ byValue catalogue
+        → FilesCrossed (s .files) (r .change) (storeOf s (now (log .entry)) (now (index .entry)) (now (current .entry)) catalogue (now (areas .entry)))
+        (memoryOf (now (log .entry)) (now (index .entry)) (now (current .entry)) (writtenBack catalogue (r .catalogue)) (now (areas .exit)))
+        (dropOf (storeOf s (now (log .entry)) (now (index .entry)) (now (current .entry)) catalogue (now (areas .entry))) t)) ⌝ }
+{
+    refiled(filing::drop(s, log, index, current, c, areas, t))
+}
+
+// 1 for yes, 0 for no.
+fn yes_out(yes: bool) -> u8
+    ensures { λ r. ⌜ r ≡ yesOut yes ⌝ }
+{
+    if yes {
+        return 1;
+    }
+    0
+}
+
+pub fn audit(
+    s: Numbers,
+    log: &[u8],
+    index: &[u64],
+    current: &[u8],
+    c: Catalogue,
+    areas: &[u8],
+) -> u8
+    ensures { λ r. ⌜ ((catalogue : List Entry) → c ≡ byValue catalogue
+        → r ≡ yesOut (auditOf (storeOf s (now (log .entry)) (now (index .entry)) (now (current .entry)) catalogue (now (areas .entry))))) ⌝ }
+{
+    yes_out(auditing::audit(s, log, index, current, c, areas))
 }

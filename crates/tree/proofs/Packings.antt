@@ -58,11 +58,11 @@ abbrev pub Words : ℕ → List (List ℕ) → Type 0
 Words w ns = (i : ℕ) → i < length ns → length (getD ns i []) ≡ w
 
 module _ (d : ℕ) (two : 2 ≤ d) (keys : List ℕ) where
-  leaf-length : (m : ℕ) → length (leafWords d keys m) ≡ d - 1
+  pub leaf-length : (m : ℕ) → length (leafWords d keys m) ≡ d - 1
   unfolding leafWords
   leaf-length m = length-padded (d - 1) (take (d - 1) (drop (m * (d - 1)) keys)) (simp length-take (omega arith))
 
-  inner-length : (n m : ℕ) → opens d m ≡ true → length (innerWords d keys n m) ≡ d - 1
+  pub inner-length : (n m : ℕ) → opens d m ≡ true → length (innerWords d keys n m) ≡ d - 1
   unfolding innerWords
   inner-length n m o =
       let at = opens-start d two m o in
@@ -97,7 +97,7 @@ getD-padded w xs i = ⊎-elim past (λ q. List·getD-append xs (replicate (w - l
         let e : length xs + (i - length xs) ≡ i = omega arith in
         (rw e at (getD-append-add xs (replicate (w - length xs) 0) (i - length xs) 0)) ∙ none (w - length xs) (i - length xs) ∙ sym (List·getD-eq-default xs 0 p)
 
-getD-map : (f : ℕ → ℕ) (xs : List ℕ) (i : ℕ) → i < length xs → getD (map f xs) i 0 ≡ f (getD xs i 0)
+pub getD-map : (f : ℕ → ℕ) (xs : List ℕ) (i : ℕ) → i < length xs → getD (map f xs) i 0 ≡ f (getD xs i 0)
 getD-map f [] i h = absurd (not-suc-le-zero h)
 getD-map f (x ∷ xs) zero h = refl
 getD-map f (x ∷ xs) (suc i) h = getD-map f xs i (le-of-suc-le-suc h)

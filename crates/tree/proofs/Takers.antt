@@ -35,7 +35,7 @@ module _ (d : ℕ) (two : 2 ≤ d) where
   pub takers-before : (m n : ℕ) → n ≤ m → takers d m n ≡ []
   takers-before m n l = rw zero-add at (takers-skip m 0 n (λ y p q e. omega (arith, host-le d two y))) ∙ takers-nil m
 
-  takers-more : (m n k : ℕ) → (ys : List ℕ) × (takers d m (n + k) ≡ takers d m n ++ ys)
+  pub takers-more : (m n k : ℕ) → (ys : List ℕ) × (takers d m (n + k) ≡ takers d m n ++ ys)
   unfolding takers
   takers-more m n zero = ([], rw (add-zero, append-nil))
   takers-more m n (suc k) =

@@ -81,7 +81,7 @@ fn node_word(d: u32, node: NodeNumber) -> usize
 // ---- one key more
 
 // m divided by d as often as it goes.
-fn strip(d: u32, m: u32) -> Stripped
+pub fn strip(d: u32, m: u32) -> Stripped
     requires { ⌜ 2 ≤ d ⌝ }
     requires { ⌜ d ≤ 64 ⌝ }
     requires { ⌜ 0 < m ⌝ }

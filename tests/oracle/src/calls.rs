@@ -1,6 +1,7 @@
 //! Random lists of calls: lent memory at and around the lengths that just suffice, a start, then calls of
 //! every kind, some that must be refused among them, and a stranger's damage to the memory.
 
+mod almost;
 mod damage;
 mod next;
 mod start;
@@ -72,7 +73,7 @@ impl Plan {
     pub fn new(random: &mut Random) -> Plan {
         Plan {
             articles: random.pick(&[2, 9, 40, 1_000]),
-            damage: random.pick(&[0, 0, 0, 8]),
+            damage: random.pick(&[0, 0, 5, 20]),
             appends: random.pick(&[30, 50, 75]),
             files: random.pick(&[20, 35, 60]),
             keeps: random.pick(&[60, 80, 97]),

@@ -142,7 +142,7 @@ fn compare_list(random: &mut Random) -> Result<(), Difference> {
                 damaged = true;
                 damage(&mut oracle, seed);
                 proved = oracle.clone();
-                Ok(())
+                compare_whole(&mut oracle, &mut proved, Call::Audit)
             }
             // these two are promised on any memory
             Call::Fresh(..) | Call::Open => {
@@ -155,7 +155,8 @@ fn compare_list(random: &mut Random) -> Result<(), Difference> {
         compared.map_err(|what| Difference { calls: calls.clone(), what })?;
         next = call(random, &plan, &oracle);
     }
-    Ok(())
+    calls.push(Call::Audit);
+    compare_whole(&mut oracle, &mut proved, Call::Audit).map_err(|what| Difference { calls, what })
 }
 
 /// The list of a store near its last record.

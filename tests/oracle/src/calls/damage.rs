@@ -1,36 +1,48 @@
 //! What a stranger does to a store.
 
+use super::almost::{wrong_file, wrong_log};
 use crate::layout::{Header, HEADER_BYTES};
 use crate::limits::MOST_RECORDS;
 use crate::outset::Entry;
 use crate::random::Random;
 use crate::store::{Memory, Numbers, Store};
 
-/// Writes something somewhere in memory or numbers, mostly where question 1 does not look.
+/// Does one thing to a store, mostly where question 1 does not look.
 pub fn damage(store: &mut Store, seed: u64) {
     let mut random = Random::new(seed);
-    let Store { numbers, memory } = store;
+    match random.from(0, 9) {
+        0..=1 => wrong_log(&mut random, store),
+        2..=3 => wrong_file(&mut random, store),
+        _ => write_anywhere(&mut random, store),
+    }
+}
+
+/// Writes something somewhere in memory or numbers.
+fn write_anywhere(random: &mut Random, Store { numbers, memory }: &mut Store) {
     let any_byte = |random: &mut Random| random.next() as u8;
-    match random.from(0, 20) {
-        0..=2 if memory.log.len() > HEADER_BYTES => {
-            write(&mut random, &mut memory.log[HEADER_BYTES..], any_byte)
-        }
-        0..=3 => write(&mut random, &mut memory.log, any_byte),
-        4..=5 => write(&mut random, &mut memory.index, Random::next),
-        6..=7 => write(&mut random, &mut memory.table, any_byte),
-        8..=9 => write(&mut random, &mut memory.catalogue, |random| Entry {
+    match random.from(0, 21) {
+        0..=2 if memory.log.len() > HEADER_BYTES => write(random, &mut memory.log[HEADER_BYTES..], any_byte),
+        0..=3 => write(random, &mut memory.log, any_byte),
+        4..=5 => write(random, &mut memory.index, Random::next),
+        6..=7 => write(random, &mut memory.table, any_byte),
+        8..=9 => write(random, &mut memory.catalogue, |random| Entry {
             time: random.from(0, 40),
             rows: random.pick(&[0, 1, 7, 1025, u32::MAX]),
         }),
-        10..=12 => write(&mut random, &mut memory.areas, any_byte),
+        10..=12 => write(random, &mut memory.areas, any_byte),
         13 => numbers.live = random.from(0, 1 + numbers.row_limit as u64) as u32,
         14..=15 => numbers.files = random.pick(&[0, 1, 2, 16, 17, numbers.files.wrapping_add(1)]),
-        16 => damage_numbers(&mut random, numbers),
+        // a word that another one has, as a separator has a key's
+        21 if !memory.index.is_empty() => {
+            let (from, to) = (random.place(memory.index.len()), random.place(memory.index.len()));
+            memory.index[to] = memory.index[from];
+        }
+        16 => damage_numbers(random, numbers),
         17..=18 => {
-            damage_numbers(&mut random, numbers);
+            damage_numbers(random, numbers);
             write_header(numbers, &mut memory.log);
         }
-        _ => lend_otherwise(&mut random, memory),
+        _ => lend_otherwise(random, memory),
     }
 }
 

@@ -14,8 +14,11 @@ pub fn call(random: &mut Random, plan: &Plan, store: &Store) -> Call {
     if random.percent(plan.damage) {
         return Call::Damage(random.next());
     }
-    // after a refused start, mostly another one
+    // after a refused start, mostly another one, or a stranger's
     if order == 0 && random.percent(80) {
+        if random.percent(40) {
+            return Call::Damage(random.next());
+        }
         return Call::Fresh(random.from(2, 5) as u16, random.from(2, 4) as u16, random.from(1, 6) as u32);
     }
     let t = time(random, store);

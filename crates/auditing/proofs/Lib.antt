@@ -1,0 +1,4 @@
+pub mod Progresses
+pub mod Seen
+pub mod Ends
+pub mod Answers

@@ -1,0 +1,110 @@
+// The net change between two times (01, "Count files"). All of the store is lent to be read alone; both tables are worked
+// out into the workspace and then merged.
+ghost use mathlib.Core.Path.{_≡_};
+ghost use mathlib.Core.List.{List};
+ghost use Prim.Native.Nat.{_*_, _≤_};
+ghost use lib.ListN.{length};
+ghost use Rattle.codec.specs.Parts.{part};
+ghost use Rattle.model.specs.declared.Entry.{Entry};
+ghost use Rattle.model.specs.Answers.{netChangeOutcome};
+ghost use Rattle.model.specs.Promises.{storeOf, NetChangePromise};
+ghost use Rattle.catalogue.specs.Files.{byValue};
+ghost use Rattle.netting.specs.Merge.{Merges};
+ghost use Rattle.comparing.specs.Both.{BothReady, BothWorkedOut, Comparable};
+use catalogue::Catalogue;
+use model::NetChangeAnswer;
+use model::Numbers;
+use model::Refusal;
+
+// The numbers of rows of two tables.
+pub struct Both {
+    pub first: u32,
+    pub second: u32,
+}
+
+// Table a and then table b into the workspace, which is as long as they are.
+fn work_out_both<'a>(
+    s: Numbers,
+    log: &[u8],
+    index: &[u64],
+    current: &'a [u8],
+    areas: &'a [u8],
+    c: Catalogue,
+    a: u64,
+    b: u64,
+    work: &mut [u8],
+) -> Both
+    requires { ⌜ BothReady s (length (now log)) (length (now index)) a b (length (now work)) ⌝ }
+    ensures within { λ n. ⌜ (n .first ≤ s .limit) × (n .second ≤ s .limit) ⌝ }
+    ensures worked { λ n. ⌜ BothWorkedOut s (now (log .entry)) (now (index .entry)) (now (current .entry)) (now (areas .entry)) c a b n (now (work .exit)) ⌝ }
+{
+    let size = 8 * (s.limit as usize);
+    let first = tables::work_out(s, log, index, current, areas, c, a, &mut work[0..size]);
+    let second = tables::work_out(
+        s,
+        log,
+        index,
+        current,
+        areas,
+        c,
+        b,
+        &mut work[size..2 * size],
+    );
+    Both {
+        first: first.rows,
+        second: second.rows,
+    }
+}
+
+// The net change from the first table of the workspace to the second. Answers the number of its
+// entries.
+fn merge_both(limit: u32, n: Both, work: &[u8], out: &mut [u8]) -> usize
+    requires { ⌜ Comparable limit n (length (now work)) (length (now out)) ⌝ }
+    ensures within { λ k. ⌜ 12 * k ≤ length (now (out .entry)) ⌝ }
+    ensures merged { λ k. ⌜ Merges (part 0 (8 * n .first) (now (work .entry))) (part (8 * limit) (8 * n .second) (now (work .entry))) k (now (out .exit)) ⌝ }
+{
+    let start = 8 * (limit as usize);
+    let first = &work[0..8 * (n.first as usize)];
+    let second = &work[start..start + 8 * (n.second as usize)];
+    netting::merge(first, second, out)
+}
+
+// The net change from a to b into the first 24 x R bytes of out; the first 16 x R bytes of the
+// workspace end holding table a and then table b.
+pub fn net_change<'a>(
+    s: Numbers,
+    log: &[u8],
+    index: &[u64],
+    current: &'a [u8],
+    c: Catalogue,
+    areas: &'a [u8],
+    a: u64,
+    b: u64,
+    out: &mut [u8],
+    work: &mut [u8],
+) -> NetChangeAnswer
+    ensures { λ r. ⌜ ((catalogue : List Entry) → c ≡ byValue catalogue
+        → NetChangePromise (storeOf s (now (log .entry)) (now (index .entry)) (now (current .entry)) catalogue (now (areas .entry))) a b
+        (now (out .entry)) (now (work .entry)) (netChangeOutcome r) (now (out .exit)) (now (work .exit))) ⌝ }
+{
+    if limits::is_sound(s, log, index.len(), current.len(), c.lent, areas.len()) {} else {
+        return NetChangeAnswer::Refused(Refusal::Header);
+    }
+    if s.last < a {
+        return NetChangeAnswer::Refused(Refusal::TimeAfterLast);
+    }
+    if s.last < b {
+        return NetChangeAnswer::Refused(Refusal::TimeAfterLast);
+    }
+    let size = 24 * (s.limit as usize);
+    if out.len() < size {
+        return NetChangeAnswer::Refused(Refusal::OutputShort);
+    }
+    let space = 16 * (s.limit as usize);
+    if work.len() < space {
+        return NetChangeAnswer::Refused(Refusal::OutputShort);
+    }
+    let n = work_out_both(s, log, index, current, areas, c, a, b, &mut work[0..space]);
+    let k = merge_both(s.limit, n, work, &mut out[0..size]);
+    NetChangeAnswer::Entries(k as u32)
+}
