@@ -127,8 +127,8 @@ pub fn move_down(s: &mut [u8], at: usize, source: usize, k: usize)
     }
 }
 
-// The same by eight bytes, the size of a row, over the whole of s: the compiler makes one call of
-// memmove of it, since the distance stands in the body and nothing lies beyond what moves.
+// The same by eight bytes, over the whole of s: the compiler makes memmove of it, which it does only
+// where the distance stands in the body and the slice holds nothing else.
 
 // All bytes but the last eight go up by eight.
 pub fn up_eight(s: &mut [u8])
