@@ -1,13 +1,17 @@
--- One turn of each loop that fills, copies or moves, over any element type, and what the moves leave. Assumes nothing.
+-- One turn of each loop that fills, copies or moves, over any element type, and what the moves leave, in the whole and in a
+-- lent part. Assumes nothing.
 use Prim.Native.Nat.{ℕ, suc, _+_, _-_, _≤_, _<_}
 use mathlib.Core.Path.{_≡_, sym, ap, _∙_}
-use mathlib.Core.List.{List, _++_, append-assoc}
+use mathlib.Core.List.{List, _++_, append-assoc, append-nil}
 use native.Mathlib.Omega.{arith}
 use native.Mathlib.Numerals.{add-one}
-use native.Mathlib.Nat.{suc-add}
-use lib.ListN.{length, take, drop, getD, set, length-append, length-drop, take-append-drop, List·getD-append}
-use lib.Seq.{paste, drop-paste, length-paste, getD-drop, slice, slice-empty, slice-cons, length-slice, length-take-le, take-suc, getD-take, set-at, drop-cons, append-snoc}
-use Rattle.codec.specs.Parts.{movedUp, movedDown}
+use native.Mathlib.Nat.{suc-add, add-zero, add-assoc}
+use lib.ListN.{length, take, drop, getD, set, length-append, length-drop, length-set, drop-of-length-le, take-append-drop, List·getD-append}
+use borrow.Author.Fill.{fill-more}
+use borrow.Rule.Slice.PartMut.{putMid}
+use lib.Seq.{paste, drop-paste, paste-suc, length-paste, getD-drop, slice, slice-empty, slice-cons, length-slice, length-take-le, take-suc, getD-take, set-at, drop-cons, append-snoc}
+use Rattle.codec.specs.Parts.{zeros, part, put, movedUp, movedDown}
+use Rattle.codec.proofs.PartLaws.{length-part, part-is-slice, part-part, put-within}
 
 module _ {A : Type 0} where
   -- ---- a copy over the front
@@ -45,6 +49,15 @@ module _ {A : Type 0} where
       (set-at (take (j + by) xs) _ _ _ (j + by) (length-take-le (j + by) xs (omega arith))
       ∙ rw (add-one, slice-cons j high xs d h (omega arith)))
 
+  -- one turn from the top down
+  pub moved-up-turn : (xs : List A) (i high by : ℕ) (d : A) {s : List A} → 0 < i → i ≤ high → high + by ≤ length xs → s ≡ movedUp xs i high by
+      → set s (i - 1 + by) (getD s (i - 1) d) ≡ movedUp xs (i - 1) high by
+  moved-up-turn xs i high by d {s} some h fits e =
+      let j = i - 1 in
+      let n : i ≡ j + 1 = omega arith in
+      let here : s ≡ movedUp xs (j + 1) high by = e ∙ ap (λ (k : ℕ). movedUp xs k high by) n in
+      rw (here, moved-up-read xs (j + 1) high by j d (omega arith) fits (omega arith)) (moved-up-step xs j high by d (omega arith) fits)
+
   -- ---- a move down
 
   pub length-moved-down : (xs : List A) (at source k : ℕ) → at ≤ source → source + k ≤ length xs → length (movedDown xs at source k) ≡ length xs
@@ -58,3 +71,76 @@ module _ {A : Type 0} where
       rw e
       (sym (getD-drop (at + n) (paste xs at ys n) (i - (at + n)) d)
       ∙ rw (drop-paste xs at ys n h k) (getD-drop (at + n) xs (i - (at + n)) d))
+
+  -- one turn from the bottom up
+  pub moved-down-turn : (xs : List A) (at source i : ℕ) (d : A) {s : List A} → at ≤ source → source + i < length xs → s ≡ movedDown xs at source i
+      → set s (at + i) (getD s (source + i) d) ≡ movedDown xs at source (i + 1)
+  moved-down-turn xs at source i d {s} h fits e =
+      let rest = drop source xs in
+      let n : length rest ≡ length xs - source = length-drop source xs in
+      rw (e, paste-read xs rest at i (source + i) d (omega arith) (omega arith) (omega arith), ← getD-drop source xs i d, add-one)
+      (paste-suc xs at rest i d (omega arith) (omega arith))
+
+  -- ---- a lent part, `&mut xs[a..a + k]`, in which elements moved: they have moved in the whole
+
+  -- a move is a part written at another place
+  pub moved-up-put : (xs : List A) (low high by : ℕ) → low ≤ high → high ≤ length xs → movedUp xs low high by ≡ put xs (low + by) (part low (high - low) xs)
+  moved-up-put xs low high by h fits =
+      let e : low + (high - low) ≡ high = omega arith in
+      let n : low + by + (high - low) ≡ high + by = omega arith in
+      rw (length-part low (high - low) xs (omega arith), n, part-is-slice low (high - low) xs, e)
+
+  pub moved-down-put : (xs : List A) (at source k : ℕ) → source + k ≤ length xs → movedDown xs at source k ≡ put xs at (part source k xs)
+  moved-down-put xs at source k fits = rw (length-part source k xs fits) (append-assoc (take at xs) (part source k xs) (drop (at + k) xs))
+
+  -- a part of the part, written at another place of it
+  pub part-copied : (a k : ℕ) (xs : List A) (at source n : ℕ) {ys : List A} → a + k ≤ length xs → at + n ≤ k → source + n ≤ k
+      → ys ≡ put (part a k xs) at (part source n (part a k xs)) → putMid a k xs ys ≡ put xs (a + at) (part (a + source) n xs)
+  part-copied a k xs at source n h g l e =
+      put-within a k xs at (part source n (part a k xs)) h (rw (length-part source n (part a k xs) (rw (length-part a k xs h) l)) g) e
+      ∙ ap (put xs (a + at)) (part-part source n a k xs l)
+
+  pub part-moved-up : (a k : ℕ) (xs : List A) (low high by : ℕ) {ys : List A} → a + k ≤ length xs → low ≤ high → high + by ≤ k
+      → ys ≡ movedUp (part a k xs) low high by → putMid a k xs ys ≡ movedUp xs (a + low) (a + high) by
+  part-moved-up a k xs low high by h l g e =
+      let len : length (part a k xs) ≡ k = length-part a k xs h in
+      let n : a + high - (a + low) ≡ high - low = omega arith in
+      part-copied a k xs (low + by) low (high - low) h (omega arith) (omega arith) (e ∙ moved-up-put (part a k xs) low high by l (omega arith))
+      ∙ sym (moved-up-put xs (a + low) (a + high) by (omega arith) (omega arith) ∙ rw (n, add-assoc a low by))
+
+  pub part-moved-down : (a k : ℕ) (xs : List A) (at source n : ℕ) {ys : List A} → a + k ≤ length xs → at ≤ source → source + n ≤ k
+      → ys ≡ movedDown (part a k xs) at source n → putMid a k xs ys ≡ movedDown xs (a + at) (a + source) n
+  part-moved-down a k xs at source n h l g e =
+      let len : length (part a k xs) ≡ k = length-part a k xs h in
+      part-copied a k xs at source n h (omega arith) g (e ∙ moved-down-put (part a k xs) at source n (omega arith))
+      ∙ sym (moved-down-put xs (a + at) (a + source) n (omega arith))
+
+  -- the same where all of `&mut xs[a..e]` moved, by so many places
+  pub whole-part-up : (a e by : ℕ) (xs : List A) {ys : List A} → a + by ≤ e → e ≤ length xs
+      → ys ≡ movedUp (part a (e - a) xs) 0 (length (part a (e - a) xs) - by) by → putMid a (e - a) xs ys ≡ movedUp xs a (e - by) by
+  whole-part-up a e by xs h fits q =
+      let len : length (part a (e - a) xs) ≡ e - a = length-part a (e - a) xs (omega arith) in
+      let high : a + (e - a - by) ≡ e - by = omega arith in
+      part-moved-up a (e - a) xs 0 (e - a - by) by (omega arith) (omega arith) (omega arith) (q ∙ ap (λ (n : ℕ). movedUp (part a (e - a) xs) 0 (n - by) by) len)
+      ∙ rw (add-zero, high)
+
+  pub whole-part-down : (a e by : ℕ) (xs : List A) {ys : List A} → a + by ≤ e → e ≤ length xs
+      → ys ≡ movedDown (part a (e - a) xs) 0 by (length (part a (e - a) xs) - by) → putMid a (e - a) xs ys ≡ movedDown xs a (a + by) (e - (a + by))
+  whole-part-down a e by xs h fits q =
+      let len : length (part a (e - a) xs) ≡ e - a = length-part a (e - a) xs (omega arith) in
+      let n : e - a - by ≡ e - (a + by) = omega arith in
+      part-moved-down a (e - a) xs 0 by (e - a - by) (omega arith) (omega arith) (omega arith) (q ∙ ap (λ (m : ℕ). movedDown (part a (e - a) xs) 0 by (m - by)) len)
+      ∙ rw (add-zero, n)
+
+-- ---- a fill with zeros, bytes or words: s₀ with the first i places filled
+
+abbrev pub FilledTo : List ℕ → List ℕ → ℕ → Type 0
+FilledTo s₀ s i = (i ≤ length s) × ((length s ≡ length s₀) × (s ≡ zeros i ++ drop i s₀))
+
+pub filled-more : (s₀ : List ℕ) (i : ℕ) {s : List ℕ} → FilledTo s₀ s i → i < length s → FilledTo s₀ (set s i 0) (i + 1)
+filled-more s₀ i f h = (simp length-set (omega arith), (simp length-set (f .1 .0), rw (f .1 .1) (fill-more i 0 s₀ (omega arith))))
+
+pub filled-all : (s₀ : List ℕ) (i : ℕ) {s : List ℕ} → FilledTo s₀ s i → length s ≤ i → s ≡ zeros (length s₀)
+filled-all s₀ i f h =
+    let e : i ≡ length s₀ = omega arith in
+    f .1 .1 ∙ rw (e, drop-of-length-le s₀ {i = length s₀} (omega arith)) (append-nil (zeros (length s₀)))

@@ -1,7 +1,7 @@
 // Little-endian numbers in byte slices, and the moves of bytes that every layer above uses.
 // Each function does what one definition of specs/ says, on any bytes; none knows what the bytes mean.
 ghost use mathlib.Core.Path.{_≡_};
-ghost use Prim.Native.Nat.{_+_, _*_, _≤_};
+ghost use Prim.Native.Nat.{_+_, _*_, _-_, _≤_};
 ghost use lib.ListN.{length, take, drop};
 ghost use Rattle.codec.specs.LittleEndian.{number, bytes};
 ghost use Rattle.codec.specs.Parts.{zeros, put, movedUp, movedDown, same};
@@ -124,6 +124,34 @@ pub fn move_down(s: &mut [u8], at: usize, source: usize, k: usize)
     while i < k {
         s[at + i] = s[source + i];
         i += 1;
+    }
+}
+
+// The same by eight bytes, over the whole of s: the compiler makes memmove of it, which it does only
+// where the distance stands in the body and the slice holds nothing else.
+
+// All bytes but the last eight go up by eight.
+pub fn up_eight(s: &mut [u8])
+    requires { ⌜ 8 ≤ length (now s) ⌝ }
+    ensures { λ _. ⌜ now (s .exit) ≡ movedUp (now (s .entry)) 0 (length (now (s .entry)) - 8) 8 ⌝ }
+{
+    let mut j = s.len() - 8;
+    while 0 < j {
+        j -= 1;
+        s[j + 8] = s[j];
+    }
+}
+
+// All bytes but the first eight come down by eight.
+pub fn down_eight(s: &mut [u8])
+    requires { ⌜ 8 ≤ length (now s) ⌝ }
+    ensures { λ _. ⌜ now (s .exit) ≡ movedDown (now (s .entry)) 0 8 (length (now (s .entry)) - 8) ⌝ }
+{
+    let n = s.len() - 8;
+    let mut j = 0;
+    while j < n {
+        s[j] = s[8 + j];
+        j += 1;
     }
 }
 

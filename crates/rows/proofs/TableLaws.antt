@@ -17,16 +17,14 @@ use Rattle.model.specs.Rows.{Row, row, lacks, countOf, Ascending, putIn, withou
 use Rattle.model.specs.Small.{Small}
 use Rattle.rows.specs.Table.{articleAt, countAt, placeOf, isAt, rowPut, rowTaken, countPut, before, recounted, rowAt}
 use Rattle.rows.proofs.Places.{before-le, before-lt, before-has, before-article, before-count, put-at, without-at, recounted-at}
-use Rattle.rows.proofs.Searches.{halves-place}
+use Rattle.rows.proofs.Searches.{place-of}
 use Rattle.rows.proofs.TableBytes.{length-rows-bytes, rows-bytes-append, length-front, take-table-bytes, drop-table-bytes, drop-all-rows, drop-zeros, article-table, count-at-table}
 
 -- ---- an article looked up
 
 module _ (R : ℕ) (T : List Row) (a : ℕ) (asc : Ascending 0 T) (small : Small T) where
   pub place-table : placeOf (tableBytes R T) (length T) a ≡ before a T
-  place-table =
-      halves-place (tableBytes R T) T a (length T) 0 (length T) 0 (article-table R T small) asc (omega arith) (omega arith)
-      (omega (arith, before-le a T)) (omega arith)
+  place-table = place-of (tableBytes R T) T a 0 (article-table R T small) asc
 
   pub at-before : isAt (tableBytes R T) (length T) (before a T) a ≡ not (lacks a T)
   unfolding isAt

@@ -1,17 +1,15 @@
 -- `codec::clear_words` meets its contract. Invariant: the first k words are zero and the rest is as it was. Measure: the words
 -- from k on. Assumes nothing.
-use Prim.Native.Nat.{_≤_, _-_}
-use mathlib.Core.Path.{_≡_, refl, _∙_}
-use mathlib.Core.List.{_++_, append-nil}
-use lib.ListN.{length, drop, length-set, drop-of-length-le}
-use borrow.Author.Fill.{fill-more}
-use Rattle.codec.specs.Parts.{zeros}
+use Prim.Native.Nat.{_-_}
+use mathlib.Core.Path.{refl}
+use lib.ListN.{length}
+use Rattle.codec.proofs.Moves.{FilledTo, filled-more, filled-all}
 use native.Mathlib.Omega.{arith}
 use Rattle.codec.proofs.clear_words.Statement.{statement}
 use Rattle.codec.proofs.clear_words.Tie as tie
 
 abbrev Inv-loop : tie.InvT-loop
-Inv-loop s₀ k₀ s k = (k ≤ length s) × ((length s ≡ length s₀) × (s ≡ zeros k ++ drop k s₀))
+Inv-loop s₀ k₀ s k = FilledTo s₀ s k
 
 abbrev μ-loop : tie.MeasureT-loop
 μ-loop s₀ k₀ s k = length s₀ - k
@@ -32,20 +30,13 @@ loop-less : tie.Need-loop-less Inv-loop μ-loop
 loop-less c = omega arith
 
 loop-again : tie.Need-loop-again Inv-loop μ-loop
-loop-again c =
-    let a = c .before .before .args in
-    let l = c .before .loop in
-    (simp length-set (omega arith), (simp length-set (omega arith), rw (l .inv .1 .1) (fill-more (l .k) 0 (a .s .now) (omega arith))))
+loop-again c = filled-more (c .before .before .args .s .now) (c .before .loop .k) (c .before .loop .inv) (omega arith)
 
 same-length : tie.Need-same-length Inv-loop μ-loop
 same-length c = omega arith
 
 returns : tie.Need-returns Inv-loop μ-loop
-returns c =
-    let a = c .before .before .args in
-    let l = c .before .loop in
-    let e : l .k ≡ length (a .s .now) = omega arith in
-    l .inv .1 .1 ∙ rw (e, drop-of-length-le (a .s .now) {i = length (a .s .now)} (omega arith)) (append-nil (zeros (length (a .s .now))))
+returns c = filled-all (c .before .before .args .s .now) (c .before .loop .k) (c .before .loop .inv) (omega arith)
 
 pub clear-words-spec : {M : Type 1} → statement M
 clear-words-spec =

@@ -1,17 +1,15 @@
 -- `codec::fill_zero` meets its contract. Invariant: the first i bytes are zero and the rest is as it was. Measure: the bytes
 -- from i on. Assumes nothing.
-use Prim.Native.Nat.{_≤_, _-_}
-use mathlib.Core.Path.{_≡_, refl, _∙_}
-use mathlib.Core.List.{_++_, append-nil}
-use lib.ListN.{length, drop, length-set, drop-of-length-le}
-use borrow.Author.Fill.{fill-more}
-use Rattle.codec.specs.Parts.{zeros}
+use Prim.Native.Nat.{_-_}
+use mathlib.Core.Path.{refl}
+use lib.ListN.{length}
+use Rattle.codec.proofs.Moves.{FilledTo, filled-more, filled-all}
 use native.Mathlib.Omega.{arith}
 use Rattle.codec.proofs.fill_zero.Statement.{statement}
 use Rattle.codec.proofs.fill_zero.Tie as tie
 
 abbrev Inv-loop : tie.InvT-loop
-Inv-loop s₀ i₀ s i = (i ≤ length s) × ((length s ≡ length s₀) × (s ≡ zeros i ++ drop i s₀))
+Inv-loop s₀ i₀ s i = FilledTo s₀ s i
 
 abbrev μ-loop : tie.MeasureT-loop
 μ-loop s₀ i₀ s i = length s₀ - i
@@ -29,20 +27,13 @@ loop-less : tie.Need-loop-less Inv-loop μ-loop
 loop-less c = omega arith
 
 loop-again : tie.Need-loop-again Inv-loop μ-loop
-loop-again c =
-    let a = c .before .before .args in
-    let l = c .before .loop in
-    (simp length-set (omega arith), (simp length-set (omega arith), rw (l .inv .1 .1) (fill-more (l .i) 0 (a .s .now) (omega arith))))
+loop-again c = filled-more (c .before .before .args .s .now) (c .before .loop .i) (c .before .loop .inv) (omega arith)
 
 same-length : tie.Need-same-length Inv-loop μ-loop
 same-length c = omega arith
 
 returns : tie.Need-returns Inv-loop μ-loop
-returns c =
-    let a = c .before .before .args in
-    let l = c .before .loop in
-    let e : l .i ≡ length (a .s .now) = omega arith in
-    l .inv .1 .1 ∙ rw (e, drop-of-length-le (a .s .now) {i = length (a .s .now)} (omega arith)) (append-nil (zeros (length (a .s .now))))
+returns c = filled-all (c .before .before .args .s .now) (c .before .loop .i) (c .before .loop .inv) (omega arith)
 
 pub fill-zero-spec : {M : Type 1} → statement M
 fill-zero-spec =

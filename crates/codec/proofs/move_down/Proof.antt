@@ -1,12 +1,11 @@
 -- `codec::move_down` meets its contract. Invariant: i bytes have been copied down, and all else is as it was.
 -- Measure: the bytes still to copy. Assumes nothing.
-use Prim.Native.Nat.{_≤_, _-_, _+_}
+use Prim.Native.Nat.{_≤_, _-_}
 use mathlib.Core.Path.{_≡_, refl, _∙_, ap}
-use native.Mathlib.Numerals.{add-one}
-use lib.ListN.{length, length-set, drop, length-drop}
-use lib.Seq.{paste-zero, paste-suc, getD-drop}
+use lib.ListN.{length, length-set, drop}
+use lib.Seq.{paste-zero}
 use Rattle.codec.specs.Parts.{movedDown}
-use Rattle.codec.proofs.Moves.{paste-read}
+use Rattle.codec.proofs.Moves.{moved-down-turn}
 use native.Mathlib.Omega.{arith}
 use Rattle.codec.proofs.move_down.Statement.{statement}
 use Rattle.codec.proofs.move_down.Tie as tie
@@ -44,15 +43,8 @@ loop-again : tie.Need-loop-again Inv-loop μ-loop
 loop-again c =
     let a = c .before .before .before .args in
     let l = c .before .before .loop in
-    let rest = drop (a .source) (a .s .now) in
-    let n : length rest ≡ length (a .s .now) - a .source = length-drop (a .source) (a .s .now) in (
-      omega arith,
-      (
-        simp length-set (omega arith),
-        rw (l .inv .1 .1, paste-read (a .s .now) rest (a .at) (l .i) (a .source + l .i) 0 (omega arith) (omega arith) (omega arith), ← getD-drop (a .source) (a .s .now) (l .i) 0, add-one)
-            (paste-suc (a .s .now) (a .at) rest (l .i) 0 (omega arith) (omega arith)),
-      ),
-    )
+    let turn = moved-down-turn (a .s .now) (a .at) (a .source) (l .i) 0 (omega arith) (omega arith) (l .inv .1 .1) in
+    (omega arith, (simp length-set (omega arith), turn))
 
 same-length : tie.Need-same-length Inv-loop μ-loop
 same-length c = omega arith

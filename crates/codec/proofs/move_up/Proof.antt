@@ -1,10 +1,10 @@
 -- `codec::move_up` meets its contract. Invariant: the bytes from i up to `high` have moved up, and all else is as it was.
 -- Measure: i. Assumes nothing.
-use Prim.Native.Nat.{ℕ, _≤_, _-_, _+_}
+use Prim.Native.Nat.{ℕ, _≤_}
 use mathlib.Core.Path.{_≡_, refl, sym, _∙_, ap}
 use lib.ListN.{length, length-set}
 use Rattle.codec.specs.Parts.{movedUp}
-use Rattle.codec.proofs.Moves.{moved-up-none, moved-up-read, moved-up-step}
+use Rattle.codec.proofs.Moves.{moved-up-none, moved-up-turn}
 use native.Mathlib.Omega.{arith}
 use Rattle.codec.proofs.move_up.Statement.{statement}
 use Rattle.codec.proofs.move_up.Tie as tie
@@ -39,19 +39,8 @@ loop-again : tie.Need-loop-again Inv-loop μ-loop
 loop-again c =
     let a = c .before .before .before .args in
     let l = c .before .before .loop in
-    let j = l .i - 1 in
-    let e : l .i ≡ j + 1 = omega arith in
-    let now : l .s ≡ movedUp (a .s .now) (j + 1) (a .high) (a .by) = l .inv .1 .1 .1 ∙ ap (λ (n : ℕ). movedUp (a .s .now) n (a .high) (a .by)) e in (
-      omega arith,
-      (
-        omega arith,
-        (
-          simp length-set (omega arith),
-          rw (now, moved-up-read (a .s .now) (j + 1) (a .high) (a .by) j 0 (omega arith) (omega arith) (omega arith))
-              (moved-up-step (a .s .now) j (a .high) (a .by) 0 (omega arith) (omega arith)),
-        ),
-      ),
-    )
+    let turn = moved-up-turn (a .s .now) (l .i) (a .high) (a .by) 0 (omega arith) (omega arith) (omega arith) (l .inv .1 .1 .1) in
+    (omega arith, (omega arith, (simp length-set (omega arith), turn)))
 
 same-length : tie.Need-same-length Inv-loop μ-loop
 same-length c = omega arith
