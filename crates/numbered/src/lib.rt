@@ -219,7 +219,13 @@ pub fn fresh(
     begin(opening::fresh(order, page, limit, log, current, entries, areas))
 }
 
-pub fn open(log: &[u8], index: &mut [u64], current: &mut [u8], entries: usize, areas: usize) -> Begun
+pub fn open(
+    log: &[u8],
+    index: &mut [u64],
+    current: &mut [u8],
+    entries: usize,
+    areas: usize,
+) -> Begun
     ensures few { λ r. ⌜ r .clears ≤ entries ⌝ }
     ensures kept { λ r. ⌜ ((area : List ℕ) (catalogue : List Entry) → length catalogue ≡ entries → length area ≡ areas
         → StartCrossed (r .change) (memoryOf (now (log .entry)) (now (index .exit)) (now (current .exit)) (put catalogue 0 (replicate (r .clears) noEntry)) area)

@@ -21,27 +21,13 @@ use model::ViewAnswer;
 
 // The calls of a list (01, "Lists of calls"), with all that they are given but their memory.
 pub enum Call {
-    Insert {
-        time: u64,
-        article: u32,
-        count: u32,
-    },
-    Delete {
-        time: u64,
-        article: u32,
-    },
-    Update {
-        time: u64,
-        article: u32,
-        count: u32,
-    },
+    Insert { time: u64, article: u32, count: u32 },
+    Delete { time: u64, article: u32 },
+    Update { time: u64, article: u32, count: u32 },
     Position(u64),
     Table(u64),
     View(u64),
-    NetChange {
-        a: u64,
-        b: u64,
-    },
+    NetChange { a: u64, b: u64 },
     Keep(u64),
     Drop(u64),
     Audit,
@@ -123,7 +109,17 @@ pub fn make(
             article,
             count,
         } => appended(
-            appending::insert(s, log, index, current, c.lent, areas.len(), time, article, count),
+            appending::insert(
+                s,
+                log,
+                index,
+                current,
+                c.lent,
+                areas.len(),
+                time,
+                article,
+                count,
+            ),
             c,
         ),
         Call::Delete { time, article } => appended(
@@ -135,7 +131,17 @@ pub fn make(
             article,
             count,
         } => appended(
-            appending::update(s, log, index, current, c.lent, areas.len(), time, article, count),
+            appending::update(
+                s,
+                log,
+                index,
+                current,
+                c.lent,
+                areas.len(),
+                time,
+                article,
+                count,
+            ),
             c,
         ),
         Call::Position(t) => {
