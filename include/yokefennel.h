@@ -26,6 +26,29 @@
  * A refused call answers the number of the first question answered no, and leaves all memory and the numbers
  * as they were. But a refused yk_fresh or yk_open answers numbers that are all zero; and at 17 yk_open has
  * zeroed table and catalogue, and the index as far as the log's records need it. */
+
+/* What a maker asks.
+ *
+ * Time         Its unit is the maker's own: seconds, minutes or a running number. Each request's time is
+ *              above the last one's, so the first is 1 or more; time 0 is that of the empty table, and no
+ *              request has it.
+ * Saving       Save the first 24 + 24 x records bytes of the log, which yk_store_log_bytes counts. Nothing
+ *              else need be: yk_open makes index, table and numbers from them. Count files are not saved;
+ *              keep them again.
+ * Count files  No call needs one. Entries and areas may have length 0: then keep is refused by 15, and all
+ *              else works.
+ * At 11        An append may need two nodes, an inner one and a leaf.
+ * Threads      The calls hold no state. Any number of stores may be used from any number of threads, one
+ *              call at a time for each store.
+ * Stack        No call takes more than 16 kB of it; yk_keep and yk_audit hold a table of 8,192 bytes there.
+ *              Nothing is allocated.
+ * Damage       Whatever numbers and lent memory hold, every call ends and touches nothing else, and a
+ *              refusal changes nothing (but for yk_open at 17). yk_audit says whether a store can be relied
+ *              on; yk_open makes one from any legal log.
+ * Platform     The archive is for x86-64 Linux, and takes memcpy and memset from the C library.
+ * Handle       yk_store, further down, holds the numbers and the regions: yk_store_insert(&store, time,
+ *              article, count) is yk_insert with them, and so on. */
+
 #ifndef YOKEFENNEL_H
 #define YOKEFENNEL_H
 
@@ -205,23 +228,6 @@ static inline yk_part yk_view_part(yk_view_answer view, const uint8_t *areas, co
     return part;
 }
 
-/* ---- What a maker asks
- *
- * Time       Its unit is the maker's own: seconds, minutes or a running number. Each request's time is above the
- *            last one's, so the first is 1 or more; time 0 is that of the empty table, and no request has it.
- * Saving     The first 24 + 24 x records bytes of the log (yk_store_log_bytes): the index, the table and the
- *            numbers come back from them by yk_open. Count files do not: keep them again.
- * Count file Needed by no call. With entries and areas of length 0 everything else works alike.
- * 11         An append may need more than one node, an inner one and a leaf: lend for the log's full length.
- * Threads    The calls hold no state. Any number of stores may be used from any number of threads, with one call
- *            at a time for each store; calls that only ask (position, table, view, net change, audit) may run side
- *            by side on one.
- * Stack      No call takes more than 16 kB; keep and audit hold a table of 8,192 bytes there. Nothing is
- *            allocated.
- * Damage     Whatever the lent memory holds, every call ends and stays within it, and a refusal changes nothing.
- *            yk_audit says whether a store can be relied on; yk_open makes one from any legal log.
- * Platform   The archive is for x86-64 Linux. It takes memcpy and memset from the C library, and nothing else. */
-
 /* The version of this header. */
 #define YK_VERSION_MAJOR 0
 #define YK_VERSION_MINOR 1
@@ -259,8 +265,8 @@ static inline const char *yk_question_text(int question) {
 
 /* ---- One handle: the numbers and the lent memory together
  *
- * Zero it, set the five regions, and start it by yk_store_fresh or yk_store_open; each call then keeps the numbers.
- * A region that is not lent is null, and counts as one of length 0. */
+ * Zero it, set the regions, and start it by yk_store_fresh or yk_store_open; its functions keep the numbers. A
+ * region that is null counts as one of length 0, and the calls get a pointer that is not null for it. */
 typedef struct yk_store {
     uint8_t *log;
     size_t log_length;
@@ -343,7 +349,8 @@ static inline enum yk_question yk_store_open(yk_store *store) {
 }
 
 /* yk_insert */
-static inline enum yk_question yk_store_insert(yk_store *store, uint64_t time, uint32_t article, uint32_t count) {
+static inline enum yk_question yk_store_insert(yk_store *store, uint64_t time, uint32_t article,
+    uint32_t count) {
     yk_store s = yk_store_lent(store);
     return yk_store_take(store, yk_insert(s.numbers, YK_LENT(s), time, article, count));
 }
@@ -355,7 +362,8 @@ static inline enum yk_question yk_store_delete(yk_store *store, uint64_t time, u
 }
 
 /* yk_update */
-static inline enum yk_question yk_store_update(yk_store *store, uint64_t time, uint32_t article, uint32_t count) {
+static inline enum yk_question yk_store_update(yk_store *store, uint64_t time, uint32_t article,
+    uint32_t count) {
     yk_store s = yk_store_lent(store);
     return yk_store_take(store, yk_update(s.numbers, YK_LENT(s), time, article, count));
 }
@@ -398,11 +406,11 @@ static inline yk_part yk_store_view_part(const yk_store *store, yk_view_answer v
 }
 
 /* yk_net_change: the entries are read from out by yk_step_at. */
-static inline yk_net_change_answer yk_store_net_change(const yk_store *store, uint64_t a, uint64_t b, uint8_t *out,
-    size_t out_length, uint8_t *work, size_t work_length) {
+static inline yk_net_change_answer yk_store_net_change(const yk_store *store, uint64_t a, uint64_t b,
+    uint8_t *out, size_t out_length, uint8_t *work, size_t work_length) {
     yk_store s = yk_store_lent(store);
-    return yk_net_change(s.numbers, YK_LENT(s), a, b, (uint8_t *)yk_lent_pointer(out), out != NULL ? out_length : 0,
-        (uint8_t *)yk_lent_pointer(work), work != NULL ? work_length : 0);
+    return yk_net_change(s.numbers, YK_LENT(s), a, b, (uint8_t *)yk_lent_pointer(out),
+        out != NULL ? out_length : 0, (uint8_t *)yk_lent_pointer(work), work != NULL ? work_length : 0);
 }
 
 /* yk_audit */

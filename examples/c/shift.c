@@ -1,5 +1,5 @@
-/* A week with a handheld counter: shifts of counting, a past day's table, Friday's deletions, what a wholesaler gets,
- * and the log written to a file and opened again. The argument is the file to write.
+/* A week with a handheld counter: shifts of counting, a past day's table, Friday's deletions, what a
+ * wholesaler gets, and the log written to a file and opened again. The argument is the file to write.
  *
  *     gcc -std=c99 -Iinclude examples/c/shift.c target/staticlib/libembed.a -o shift && ./shift week.log */
 #include <stdio.h>
@@ -7,8 +7,8 @@
 
 #include "yokefennel.h"
 
-/* The maker's choice, and the memory that goes with it. The index has 2 words a page and one node more, which is enough
- * for any order: see docs/GUIDE.md. */
+/* The maker's choice, and the memory that goes with it. The index has 2 words a page and ORDER more, which is
+ * always enough: see docs/GUIDE.md. */
 enum { ORDER = 8, PAGE = 16, LIMIT = 100, RECORDS = 1000, PAGES = (RECORDS + PAGE - 1) / PAGE, FILES = 2 };
 
 typedef struct memory {
@@ -52,8 +52,8 @@ static void count_the_week(yk_store *store) {
     must(yk_store_update(store, at(THURSDAY, 16, 45), 4711, 9));
 }
 
-/* What is no longer sold leaves on Friday. Thursday's last table is asked for often until the wholesaler has it, so it is
- * kept before. */
+/* What is no longer sold leaves on Friday. Thursday's last table is asked for often until the wholesaler has it,
+ * so it is kept before. */
 static void friday(yk_store *store) {
     must(yk_store_keep(store, at(THURSDAY, 16, 45)));
     must(yk_store_delete(store, at(FRIDAY, 8, 0), 4712));

@@ -1,5 +1,5 @@
-//! A week with a handheld counter: shifts of counting, a past day's table, Friday's deletions, what a wholesaler gets,
-//! and the log written to a file and opened again. The argument is the file to write.
+//! A week with a handheld counter: shifts of counting, a past day's table, Friday's deletions, what a
+//! wholesaler gets, and the log written to a file and opened again. The argument is the file to write.
 //!
 //!     YK_LIB_DIR=$PWD/target/staticlib cargo run --manifest-path rust/Cargo.toml --example shift week.log
 
@@ -7,8 +7,8 @@ use std::error::Error;
 use std::{env, fs};
 use yokefennel::{Entry, Lent, Refusal, Settings, Step, Store};
 
-// The maker's choice, and the memory that goes with it. The index has 2 words a page and one node more, which is enough
-// for any order: see docs/GUIDE.md.
+// The maker's choice, and the memory that goes with it. The index has 2 words a page and `order` more, which
+// is always enough: see docs/GUIDE.md.
 const SETTINGS: Settings = Settings { order: 8, page: 16, limit: 100 };
 const RECORDS: usize = 1_000;
 const PAGES: usize = RECORDS.div_ceil(SETTINGS.page as usize);
@@ -66,8 +66,8 @@ fn count_the_week(store: &mut Store) -> Result<(), Refusal> {
     store.update(at(THURSDAY, 16, 45), 4711, 9)
 }
 
-/// What is no longer sold leaves on Friday. Thursday's last table is asked for often until the wholesaler has it, so it
-/// is kept before.
+/// What is no longer sold leaves on Friday. Thursday's last table is asked for often until the wholesaler has
+/// it, so it is kept before.
 fn friday(store: &mut Store) -> Result<(), Refusal> {
     store.keep(at(THURSDAY, 16, 45))?;
     store.delete(at(FRIDAY, 8, 0), 4712)?;

@@ -1,8 +1,8 @@
 //! A stock history store whose calls are proved, over memory that you lend.
 //!
-//! A [`Store`] borrows five slices ([`Lent`]) and nothing else: it allocates nothing and holds nothing between calls
-//! but its [`Numbers`]. Counts are appended at rising times; the table of any past time, and the net change between
-//! two times, can be asked for.
+//! A [`Store`] borrows five slices ([`Lent`]): it allocates nothing, and holds nothing between calls but its
+//! [`Numbers`]. Counts are appended at rising times; the table of any past time, and the net change between two
+//! times, can be asked for.
 //!
 //! ```
 //! use yokefennel::{Entry, Lent, Row, Settings, Step, Store};
@@ -31,14 +31,15 @@
 //! # Ok::<(), yokefennel::Refusal>(())
 //! ```
 //!
-//! - **Time**: its unit is yours. Each request's time is above the last one's, so the first is 1 or more; time 0 is that
-//!   of the empty table, and no request has it.
-//! - **Lengths that suffice**: log 24 bytes and 24 for each record; table 8 × limit; areas 8 × limit for each count
-//!   file; `docs/GUIDE.md` has the rule for the index. Entries and areas may be empty: count files are needed by no call.
+//! - **Time**: its unit is yours. Each request's time is above the last one's, so the first is 1 or more; time 0
+//!   is that of the empty table, and no request has it.
+//! - **Lengths that suffice**: log 24 bytes and 24 for each record; table 8 × limit; areas 8 × limit for each
+//!   count file; `docs/GUIDE.md` has the rule for the index. No call needs a count file: entries and areas may
+//!   be empty.
 //! - **Saving**: [`Store::log`] is all that need be saved; [`Store::open`] makes the rest anew.
 //! - **Threads**: any number of stores on any number of threads.
-//! - **Damage**: whatever the lent memory holds, every call ends and stays within it. [`Store::audit`] says whether a
-//!   store can be relied on.
+//! - **Damage**: whatever the lent memory holds, every call ends and stays within it. [`Store::audit`] says
+//!   whether a store can be relied on.
 //! - **Stack**: at most 16 kB for a call.
 //!
 //! The build needs `YK_LIB_DIR`, the folder of `libembed.a` (x86-64 Linux).

@@ -1,5 +1,6 @@
-//! The calls as `include/yokefennel.h` declares them, for those who want no handle. A region is a pointer, never
-//! null, and the number of its elements; regions of one call do not overlap. The header says what each call does.
+//! The calls as `include/yokefennel.h` declares them, for those who want no handle. A region is a pointer,
+//! never null, and the number of its elements; regions of one call do not overlap. The header says what each
+//! call does.
 
 use crate::{Entry, Numbers};
 

@@ -2,8 +2,8 @@
 
 use core::{error, fmt};
 
-/// The question answered no. Nothing has changed: memory and numbers are as they were before the call, except where
-/// an opening is refused by [`WrongRecord`](Refusal::WrongRecord).
+/// The question answered no. Memory and numbers are as they were before the call, except where an opening is
+/// refused by [`WrongRecord`](Refusal::WrongRecord).
 #[derive(Clone, Copy, Debug, PartialEq, Eq, Hash)]
 pub enum Refusal {
     /// 1: the numbers, the log's header and the lent lengths do not fit each other
@@ -69,7 +69,7 @@ impl Refusal {
         }
     }
 
-    /// The refusal of an answer, `None` where it was accepted. The library answers no other number than 0 to 17.
+    /// The refusal of an answer, `None` where it was accepted. The library answers 0 to 17.
     pub(crate) fn of(question: u8, record: u32) -> Option<Refusal> {
         Some(match question {
             0 => return None,

@@ -134,8 +134,9 @@ fn accepted(question: u8) -> Result<(), Refusal> {
     Refusal::of(question, 0).map_or(Ok(()), Err)
 }
 
-// Each call below passes the pointer and the length of slices that are borrowed as long as it runs, those that it may
-// write as `&mut`; the pointer of a slice is never null, and the library keeps none of them. That is all that it asks.
+// Each call below passes the pointer and the length of slices that are borrowed as long as it runs, those that
+// it may write as `&mut`; a slice's pointer is never null, and the library keeps none of them. That is all that
+// it asks.
 #[rustfmt::skip]
 impl<'a> Store<'a> {
     /// Starts an empty store: writes the log's header, zeroes table and catalogue.
@@ -155,7 +156,7 @@ impl<'a> Store<'a> {
         Ok(store)
     }
 
-    /// Takes up the written log that the lent one starts with: makes index and table anew, zeroes the catalogue.
+    /// Takes up the written log that the lent one starts with: makes index and table, zeroes the catalogue.
     ///
     /// Refuses by 1 to 5 and 17.
     pub fn open(lent: Lent<'a>) -> Result<Store<'a>, Refusal> {
@@ -171,8 +172,8 @@ impl<'a> Store<'a> {
         Ok(store)
     }
 
-    /// Goes on with memory and numbers that a store left, for instance in memory that survives a restart. Nothing is
-    /// looked at: ask [`audit`](Store::audit) whether they can be relied on.
+    /// Goes on with memory and numbers that a store left, for instance in memory that survives a restart. Nothing
+    /// is looked at: ask [`audit`](Store::audit) whether they can be relied on.
     pub fn resume(numbers: Numbers, lent: Lent<'a>) -> Store<'a> {
         Store { numbers, lent }
     }
@@ -339,11 +340,13 @@ impl<'a> Store<'a> {
         Ok(View { bytes, rows: answer.rows, place, side: side(answer.later), distance: answer.distance })
     }
 
-    /// What leads from the table of time a to that of time b, a before or after b, into the first 24 × limit bytes of
-    /// `out`. The first 16 × limit bytes of `work` then hold the table of a and the table of b.
+    /// What leads from the table of time a to that of time b, a before or after b, into the first 24 × limit
+    /// bytes of `out`. The first 16 × limit bytes of `work` then hold the table of a and the table of b.
     ///
     /// Refuses by 1, 12, 13.
-    pub fn net_change<'o>(&self, a: u64, b: u64, out: &'o mut [u8], work: &mut [u8]) -> Result<NetChange<'o>, Refusal> {
+    pub fn net_change<'o>(
+        &self, a: u64, b: u64, out: &'o mut [u8], work: &mut [u8],
+    ) -> Result<NetChange<'o>, Refusal> {
         let Lent { log, index, table, entries, areas } = &self.lent;
         let answer = unsafe {
             raw::yk_net_change(
@@ -357,7 +360,7 @@ impl<'a> Store<'a> {
         Ok(NetChange { bytes: out, entries: answer.entries })
     }
 
-    /// Whether numbers and lent memory are such as accepted calls leave. Then all other calls answer as promised.
+    /// Whether numbers and lent memory are such as accepted calls leave. Then all calls answer as promised.
     pub fn audit(&self) -> bool {
         let Lent { log, index, table, entries, areas } = &self.lent;
         let answer = unsafe {

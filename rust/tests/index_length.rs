@@ -1,4 +1,4 @@
-//! The index that docs/GUIDE.md says to lend: the exact rule, the bound of 2 words a page, and the store between them.
+//! The index that docs/GUIDE.md says to lend: the exact rule, the bound of 2 words a page, and the store itself.
 
 use yokefennel::{Lent, Refusal, Settings, Store};
 
@@ -18,7 +18,7 @@ fn words(order: usize, pages: usize) -> usize {
 }
 
 #[test]
-fn two_words_a_page_and_a_node_more() {
+fn two_words_a_page_and_the_order() {
     for order in 2..=64 {
         let most = 32_768usize.div_ceil(order - 1);
         let mut nodes = 0;
@@ -33,7 +33,7 @@ fn two_words_a_page_and_a_node_more() {
     assert_eq!(words(2, 32_768), 65_535);
 }
 
-/// The store takes what the rule says, and with one word less it is refused by 11 or takes no more.
+/// The store needs just what the rule says: with one word less an append is refused by 11.
 #[test]
 fn the_store_needs_as_much() {
     for (order, page) in [(2, 2), (3, 2), (4, 3), (8, 2), (64, 2)] {

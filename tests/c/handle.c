@@ -1,5 +1,5 @@
-/* The handle: each of its functions, regions that are not lent, and every question in words. Reads as C99, C11 and
- * C++17. */
+/* The handle: each of its functions, regions that are not lent, and every question in words. It reads as C99,
+ * C11 and C++17. */
 #include <stdio.h>
 #include <stdlib.h>
 #include <string.h>
@@ -78,14 +78,15 @@ static void count_files(yk_store *store) {
     yk_part part = yk_store_view_part(store, view);
     require(view.place == YK_AREA && part.bytes == areas && part.length == 16, "view");
     require(row_is(yk_row_at(part.bytes, 1), 7, 50), "a view's row");
-    require(yk_store_keep(store, 20) == YK_NOT_TO_KEEP && store->numbers.files == 1, "a refusal keeps the numbers");
+    require(yk_store_keep(store, 20) == YK_NOT_TO_KEEP && store->numbers.files == 1, "numbers of a refusal");
     require(yk_store_drop(store, 20) == YK_ACCEPTED && store->numbers.files == 0, "drop");
 }
 
 static void open_again(void) {
     yk_store store = over(1);
     require(yk_store_log_bytes(&store) == 0, "nothing to save before a start");
-    require(yk_store_open(&store) == YK_ACCEPTED && store.numbers.records == 8 && yk_store_audit(&store), "open");
+    require(yk_store_open(&store) == YK_ACCEPTED && store.numbers.records == 8, "open");
+    require(yk_store_audit(&store) == 1, "audit of the opened store");
     log_bytes[24 + 24 * 4 + 20] ^= 1;
     require(yk_store_open(&store) == YK_WRONG_RECORD && store.record == 4, "the first wrong record");
     log_bytes[24 + 24 * 4 + 20] ^= 1;
@@ -100,7 +101,8 @@ static void not_lent(void) {
     require(yk_store_view_part(&store, yk_store_view(&store, 0)).length == 0, "an empty view");
     memset(&store, 0, sizeof store);
     store.log_length = store.table_length = 1000;
-    require(yk_store_fresh(&store, 3, 2, LIMIT) == YK_MEMORY && yk_store_open(&store) == YK_HEADER, "nothing lent");
+    require(yk_store_fresh(&store, 3, 2, LIMIT) == YK_MEMORY, "fresh with nothing lent");
+    require(yk_store_open(&store) == YK_HEADER, "open with nothing lent");
     require(yk_store_insert(&store, 1, 1, 1) == YK_HEADER && !yk_store_audit(&store), "no store");
 }
 
