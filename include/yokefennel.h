@@ -43,8 +43,8 @@
  * Stack        No call takes more than 16 kB of it; yk_keep and yk_audit hold a table of 8,192 bytes there.
  *              Nothing is allocated.
  * Damage       Whatever numbers and lent memory hold, every call ends and touches nothing else, and a
- *              refusal changes nothing (but for yk_open at 17). yk_audit says whether a store can be relied
- *              on; yk_open makes one from any legal log.
+ *              refusal changes nothing (but for yk_open at 17). yk_audit says whether it is all such as
+ *              accepted calls leave; yk_open makes a store from any legal log.
  * Platform     The archive is for x86-64 Linux, and takes memcpy and memset from the C library.
  * Handle       yk_store, further down, holds the numbers and the regions: yk_store_insert(&store, time,
  *              article, count) is yk_insert with them, and so on. */

@@ -39,7 +39,7 @@
 //! - **Saving**: [`Store::log`] is all that need be saved; [`Store::open`] makes the rest anew.
 //! - **Threads**: any number of stores on any number of threads.
 //! - **Damage**: whatever the lent memory holds, every call ends and stays within it. [`Store::audit`] says
-//!   whether a store can be relied on.
+//!   whether it is such as accepted calls leave.
 //! - **Stack**: at most 16 kB for a call.
 //!
 //! The build needs `YK_LIB_DIR`, the folder of `libembed.a` (x86-64 Linux).

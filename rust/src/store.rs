@@ -173,7 +173,7 @@ impl<'a> Store<'a> {
     }
 
     /// Goes on with memory and numbers that a store left, for instance in memory that survives a restart. Nothing
-    /// is looked at: ask [`audit`](Store::audit) whether they can be relied on.
+    /// is looked at: ask [`audit`](Store::audit).
     pub fn resume(numbers: Numbers, lent: Lent<'a>) -> Store<'a> {
         Store { numbers, lent }
     }

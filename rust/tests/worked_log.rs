@@ -146,6 +146,24 @@ fn opening_and_a_wrong_record() {
     assert_eq!(Store::open(memory.lend()).unwrap_err(), Refusal::WrongRecord { record: 8 });
 }
 
+/// What docs/GUIDE.md advises at 17: the records before the first wrong one are a legal log.
+#[test]
+fn the_records_before_a_wrong_one() {
+    for wrong in 0..8usize {
+        let mut memory = Memory::of(9, 2);
+        build(&mut memory);
+        memory.log[24 + 24 * wrong] = 0;
+        let refusal = Store::open(memory.lend()).unwrap_err();
+        assert_eq!(refusal, Refusal::WrongRecord { record: wrong as u32 });
+        memory.log[12..16].copy_from_slice(&(wrong as u32).to_le_bytes());
+        let time = 24 * wrong + 8;
+        let last = if wrong == 0 { [0; 8] } else { memory.log[time..time + 8].try_into().unwrap() };
+        memory.log[16..24].copy_from_slice(&last);
+        let store = Store::open(memory.lend()).unwrap();
+        assert!(store.audit() && store.numbers().records == wrong as u32);
+    }
+}
+
 #[test]
 fn no_count_files_and_nothing_lent() {
     let mut memory = Memory::of(9, 0);
