@@ -5,7 +5,7 @@
  *
  * region   element   lengths that suffice
  * log      byte      24 for the header and 24 for each record, at most 65,536 of them
- * index    word      order - 1 for each node of the packed tree; 11 says that one more is needed
+ * index    word      order - 1 for each node of the packed tree; 11 says that one or two more are needed
  * table    byte      8 x limit: the current table
  * entries  yk_entry  one for each count file, up to 16: the catalogue
  * areas    byte      8 x limit for each count file
@@ -239,7 +239,7 @@ static inline const char *yk_version(void) {
 }
 
 /* A question answered no, in words. */
-static inline const char *yk_question_text(int question) {
+static inline const char *yk_question_text(unsigned question) {
     switch (question) {
     case YK_ACCEPTED: return "accepted";
     case YK_HEADER: return "the numbers, the log's header and the lent lengths do not fit each other";

@@ -89,6 +89,7 @@ static void open_again(void) {
     require(yk_store_audit(&store) == 1, "audit of the opened store");
     log_bytes[24 + 24 * 4 + 20] ^= 1;
     require(yk_store_open(&store) == YK_WRONG_RECORD && store.record == 4, "the first wrong record");
+    require(store.numbers.order == 0 && store.numbers.records == 0, "numbers of a refused opening");
     log_bytes[24 + 24 * 4 + 20] ^= 1;
 }
 
@@ -107,10 +108,10 @@ static void not_lent(void) {
 }
 
 static void words(void) {
-    for (int question = 0; question <= 17; question++) {
+    for (unsigned question = 0; question <= 17; question++) {
         const char *text = yk_question_text(question);
         require(strcmp(text, "no such question") != 0, "each question has words");
-        for (int other = 0; other < question; other++) {
+        for (unsigned other = 0; other < question; other++) {
             require(strcmp(text, yk_question_text(other)) != 0, "and its own");
         }
     }
