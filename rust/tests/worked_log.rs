@@ -138,7 +138,11 @@ fn starts_that_are_refused() {
 fn opening_and_a_wrong_record() {
     let mut memory = Memory::of(9, 2);
     build(&mut memory);
+    let (index, table) = (memory.index.clone(), memory.table.clone());
+    memory.index.fill(0xA5);
+    memory.table.fill(0xA5);
     assert!(Store::open(memory.lend()).unwrap().audit());
+    assert!(memory.index == index && memory.table == table, "the same to the byte");
     memory.log[24 + 24 * 4 + 20] ^= 1;
     assert_eq!(Store::open(memory.lend()).unwrap_err(), Refusal::WrongRecord { record: 4 });
     memory.log[24 + 24 * 4 + 20] ^= 1;
