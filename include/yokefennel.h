@@ -5,7 +5,7 @@
  *
  * region   element   lengths that suffice
  * log      byte      24 for the header and 24 for each record, at most 65,536 of them
- * index    word      order - 1 for each node of the packed tree; 11 says that one more is needed
+ * index    word      order - 1 for each node of the packed tree; 11 says that one or two more are needed
  * table    byte      8 x limit: the current table
  * entries  yk_entry  one for each count file, up to 16: the catalogue
  * areas    byte      8 x limit for each count file
@@ -26,6 +26,29 @@
  * A refused call answers the number of the first question answered no, and leaves all memory and the numbers
  * as they were. But a refused yk_fresh or yk_open answers numbers that are all zero; and at 17 yk_open has
  * zeroed table and catalogue, and the index as far as the log's records need it. */
+
+/* What a maker asks.
+ *
+ * Time         Its unit is the maker's own: seconds, minutes or a running number. Each request's time is
+ *              above the last one's, so the first is 1 or more; time 0 is that of the empty table, and no
+ *              request has it.
+ * Saving       Save the first 24 + 24 x records bytes of the log, which yk_store_log_bytes counts. Nothing
+ *              else need be: yk_open makes index, table and numbers from them. Count files are not saved;
+ *              keep them again.
+ * Count files  No call needs one. Entries and areas may have length 0: then keep is refused by 15, and all
+ *              else works.
+ * At 11        An append may need two nodes, an inner one and a leaf.
+ * Threads      The calls hold no state. Any number of stores may be used from any number of threads, one
+ *              call at a time for each store.
+ * Stack        No call takes more than 16 kB of it; yk_keep and yk_audit hold a table of 8,192 bytes there.
+ *              Nothing is allocated.
+ * Damage       Whatever numbers and lent memory hold, every call ends and touches nothing else, and a
+ *              refusal changes nothing (but for yk_open at 17). yk_audit says whether it is all such as
+ *              accepted calls leave; yk_open makes a store from any legal log.
+ * Platform     The archive is for x86-64 Linux, and takes memcpy and memset from the C library.
+ * Handle       yk_store, further down, holds the numbers and the regions: yk_store_insert(&store, time,
+ *              article, count) is yk_insert with them, and so on. */
+
 #ifndef YOKEFENNEL_H
 #define YOKEFENNEL_H
 
@@ -203,6 +226,225 @@ static inline yk_part yk_view_part(yk_view_answer view, const uint8_t *areas, co
     part.bytes = (view.place == YK_AREA ? areas : table) + view.start;
     part.length = view.length;
     return part;
+}
+
+/* The version of this header. */
+#define YK_VERSION_MAJOR 0
+#define YK_VERSION_MINOR 1
+#define YK_VERSION_PATCH 0
+#define YK_VERSION "0.1.0"
+
+static inline const char *yk_version(void) {
+    return YK_VERSION;
+}
+
+/* A question answered no, in words. */
+static inline const char *yk_question_text(unsigned question) {
+    switch (question) {
+    case YK_ACCEPTED: return "accepted";
+    case YK_HEADER: return "the numbers, the log's header and the lent lengths do not fit each other";
+    case YK_ORDER: return "the order is not 2 to 64";
+    case YK_PAGE_SIZE: return "the records per page are not 2 to 64";
+    case YK_ROW_LIMIT: return "the row limit is not 1 to 1,024";
+    case YK_MEMORY: return "the log, the index or the table is too short, or there are over 65,536 records";
+    case YK_TIME_NOT_ABOVE: return "the time is not above the last";
+    case YK_ARTICLE_PRESENT: return "the article is there already";
+    case YK_ARTICLE_ABSENT: return "the article is not there";
+    case YK_ROWS_FULL: return "as many rows are live as the row limit allows";
+    case YK_LOG_FULL: return "the log has no space for the request";
+    case YK_INDEX_FULL: return "the index has no space for the nodes that the request needs";
+    case YK_TIME_AFTER_LAST: return "the time is after the last request";
+    case YK_OUTPUT_SHORT: return "the output or the workspace is too short";
+    case YK_NOT_TO_KEEP: return "the time is 0 or is kept already";
+    case YK_CATALOGUE_FULL: return "there is no space for another count file";
+    case YK_NOT_KEPT: return "no count file of that time is kept";
+    case YK_WRONG_RECORD: return "the log is not legal";
+    default: return "no such question";
+    }
+}
+
+/* ---- One handle: the numbers and the lent memory together
+ *
+ * Zero it, set the regions, and start it by yk_store_fresh or yk_store_open; its functions keep the numbers. A
+ * region that is null counts as one of length 0, and the calls get a pointer that is not null for it. */
+typedef struct yk_store {
+    uint8_t *log;
+    size_t log_length;
+    uint64_t *index;
+    size_t index_length;
+    uint8_t *table;
+    size_t table_length;
+    yk_entry *entries;
+    size_t entries_length;
+    uint8_t *areas;
+    size_t areas_length;
+    yk_numbers numbers; /* as the last call answered them; only the store's functions write them */
+    uint32_t record;    /* as the last call answered it: at 17 the first wrong record, see yk_change */
+} yk_store;
+
+/* A row of a table. */
+typedef struct yk_row {
+    uint32_t article;
+    uint32_t count;
+} yk_row;
+
+/* Which of the two an entry of a net change is. */
+enum yk_kind {
+    YK_INSERTION = 2,
+    YK_DELETION = 3
+};
+
+/* An entry of a net change. */
+typedef struct yk_step {
+    uint16_t kind; /* an enum yk_kind */
+    uint32_t article;
+    uint32_t count;
+} yk_step;
+
+/* A pointer that is not null. Nothing is read or written where it stands in for a null one. */
+static inline void *yk_lent_pointer(void *pointer) {
+    static uint64_t nothing;
+    return pointer != NULL ? pointer : (void *)&nothing;
+}
+
+/* The store with a pointer that is not null and a length of 0 for each region that is not lent. */
+static inline yk_store yk_store_lent(const yk_store *store) {
+    yk_store lent = *store;
+    lent.log = (uint8_t *)yk_lent_pointer(store->log);
+    lent.log_length = store->log != NULL ? store->log_length : 0;
+    lent.index = (uint64_t *)yk_lent_pointer(store->index);
+    lent.index_length = store->index != NULL ? store->index_length : 0;
+    lent.table = (uint8_t *)yk_lent_pointer(store->table);
+    lent.table_length = store->table != NULL ? store->table_length : 0;
+    lent.entries = (yk_entry *)yk_lent_pointer(store->entries);
+    lent.entries_length = store->entries != NULL ? store->entries_length : 0;
+    lent.areas = (uint8_t *)yk_lent_pointer(store->areas);
+    lent.areas_length = store->areas != NULL ? store->areas_length : 0;
+    return lent;
+}
+
+/* Takes up what a call answered. */
+static inline enum yk_question yk_store_take(yk_store *store, yk_change answer) {
+    store->numbers = answer.numbers;
+    store->record = answer.record;
+    return (enum yk_question)answer.question;
+}
+
+/* The regions of a store, as the calls take them. */
+#define YK_LENT(s)                                                                                             \
+    (s).log, (s).log_length, (s).index, (s).index_length, (s).table, (s).table_length, (s).entries,            \
+        (s).entries_length, (s).areas, (s).areas_length
+
+/* yk_fresh */
+static inline enum yk_question yk_store_fresh(yk_store *store, uint16_t order, uint16_t page, uint32_t limit) {
+    yk_store s = yk_store_lent(store);
+    return yk_store_take(store, yk_fresh(order, page, limit, s.log, s.log_length, s.table, s.table_length,
+        s.entries, s.entries_length, s.areas, s.areas_length));
+}
+
+/* yk_open: the lent log starts with the saved bytes. */
+static inline enum yk_question yk_store_open(yk_store *store) {
+    yk_store s = yk_store_lent(store);
+    return yk_store_take(store, yk_open(YK_LENT(s)));
+}
+
+/* yk_insert */
+static inline enum yk_question yk_store_insert(yk_store *store, uint64_t time, uint32_t article,
+    uint32_t count) {
+    yk_store s = yk_store_lent(store);
+    return yk_store_take(store, yk_insert(s.numbers, YK_LENT(s), time, article, count));
+}
+
+/* yk_delete */
+static inline enum yk_question yk_store_delete(yk_store *store, uint64_t time, uint32_t article) {
+    yk_store s = yk_store_lent(store);
+    return yk_store_take(store, yk_delete(s.numbers, YK_LENT(s), time, article));
+}
+
+/* yk_update */
+static inline enum yk_question yk_store_update(yk_store *store, uint64_t time, uint32_t article,
+    uint32_t count) {
+    yk_store s = yk_store_lent(store);
+    return yk_store_take(store, yk_update(s.numbers, YK_LENT(s), time, article, count));
+}
+
+/* yk_keep */
+static inline enum yk_question yk_store_keep(yk_store *store, uint64_t time) {
+    yk_store s = yk_store_lent(store);
+    return yk_store_take(store, yk_keep(s.numbers, YK_LENT(s), time));
+}
+
+/* yk_drop */
+static inline enum yk_question yk_store_drop(yk_store *store, uint64_t time) {
+    yk_store s = yk_store_lent(store);
+    return yk_store_take(store, yk_drop(s.numbers, YK_LENT(s), time));
+}
+
+/* yk_position */
+static inline yk_position_answer yk_store_position(const yk_store *store, uint64_t time) {
+    yk_store s = yk_store_lent(store);
+    return yk_position(s.numbers, YK_LENT(s), time);
+}
+
+/* yk_table: the rows are read from out by yk_row_at. */
+static inline yk_table_answer yk_store_table(const yk_store *store, uint64_t time, uint8_t *out,
+    size_t out_length) {
+    yk_store s = yk_store_lent(store);
+    return yk_table(s.numbers, YK_LENT(s), time, (uint8_t *)yk_lent_pointer(out), out != NULL ? out_length : 0);
+}
+
+/* yk_view */
+static inline yk_view_answer yk_store_view(const yk_store *store, uint64_t time) {
+    yk_store s = yk_store_lent(store);
+    return yk_view(s.numbers, YK_LENT(s), time);
+}
+
+/* The rows that a view of this store answered. */
+static inline yk_part yk_store_view_part(const yk_store *store, yk_view_answer view) {
+    yk_store s = yk_store_lent(store);
+    return yk_view_part(view, s.areas, s.table);
+}
+
+/* yk_net_change: the entries are read from out by yk_step_at. */
+static inline yk_net_change_answer yk_store_net_change(const yk_store *store, uint64_t a, uint64_t b,
+    uint8_t *out, size_t out_length, uint8_t *work, size_t work_length) {
+    yk_store s = yk_store_lent(store);
+    return yk_net_change(s.numbers, YK_LENT(s), a, b, (uint8_t *)yk_lent_pointer(out),
+        out != NULL ? out_length : 0, (uint8_t *)yk_lent_pointer(work), work != NULL ? work_length : 0);
+}
+
+/* yk_audit */
+static inline int yk_store_audit(const yk_store *store) {
+    yk_store s = yk_store_lent(store);
+    return yk_audit(s.numbers, YK_LENT(s));
+}
+
+/* How many bytes of the log to save, from its first: header and records. 0 where no store is started. */
+static inline size_t yk_store_log_bytes(const yk_store *store) {
+    return store->numbers.order == 0 ? 0 : 24 + (size_t)24 * store->numbers.records;
+}
+
+/* Four bytes, little-endian, as a number. */
+static inline uint32_t yk_number_at(const uint8_t *bytes) {
+    return (uint32_t)bytes[0] | (uint32_t)bytes[1] << 8 | (uint32_t)bytes[2] << 16 | (uint32_t)bytes[3] << 24;
+}
+
+/* Row i, from 0, of a table, a count file or a view's part; i is below the rows answered. */
+static inline yk_row yk_row_at(const uint8_t *rows, uint32_t i) {
+    yk_row row;
+    row.article = yk_number_at(rows + (size_t)8 * i);
+    row.count = yk_number_at(rows + (size_t)8 * i + 4);
+    return row;
+}
+
+/* Entry i, from 0, of a net change; i is below the entries answered. */
+static inline yk_step yk_step_at(const uint8_t *entries, uint32_t i) {
+    const uint8_t *entry = entries + (size_t)12 * i;
+    yk_step step;
+    step.kind = (uint16_t)(entry[2] | entry[3] << 8);
+    step.article = yk_number_at(entry + 4);
+    step.count = yk_number_at(entry + 8);
+    return step;
 }
 
 #ifdef __cplusplus

@@ -1,0 +1,132 @@
+/* A week with a handheld counter: shifts of counting, a past day's table, Friday's deletions, what a
+ * wholesaler gets, and the log written to a file and opened again. The argument is the file to write.
+ *
+ *     gcc -std=c99 -Iinclude examples/c/shift.c target/staticlib/libembed.a -o shift && ./shift week.log */
+#include <stdio.h>
+#include <stdlib.h>
+
+#include "yokefennel.h"
+
+/* The maker's choice, and the memory that goes with it. The index has 2 words a page and ORDER more, which is
+ * always enough: see docs/GUIDE.md. */
+enum { ORDER = 8, PAGE = 16, LIMIT = 100, RECORDS = 1000, PAGES = (RECORDS + PAGE - 1) / PAGE, FILES = 2 };
+
+typedef struct memory {
+    uint8_t log[24 + 24 * RECORDS];
+    uint64_t index[2 * PAGES + ORDER];
+    uint8_t table[8 * LIMIT];
+    yk_entry entries[FILES];
+    uint8_t areas[FILES * 8 * LIMIT];
+} memory;
+
+static yk_store over(memory *lent) {
+    yk_store store = {.log = lent->log, .log_length = sizeof lent->log,
+        .index = lent->index, .index_length = sizeof lent->index / sizeof lent->index[0],
+        .table = lent->table, .table_length = sizeof lent->table,
+        .entries = lent->entries, .entries_length = FILES,
+        .areas = lent->areas, .areas_length = sizeof lent->areas};
+    return store;
+}
+
+/* This maker's unit of time is the minute; Monday is day 1. */
+static uint64_t at(int day, int hour, int minute) {
+    return (uint64_t)(day * 24 + hour) * 60 + (uint64_t)minute;
+}
+
+enum { MONDAY = 1, TUESDAY, WEDNESDAY, THURSDAY, FRIDAY };
+
+static void must(enum yk_question question) {
+    if (question != YK_ACCEPTED) {
+        fprintf(stderr, "refused by %d: %s\n", question, yk_question_text(question));
+        exit(1);
+    }
+}
+
+static void count_the_week(yk_store *store) {
+    must(yk_store_insert(store, at(MONDAY, 8, 5), 4711, 20));
+    must(yk_store_insert(store, at(MONDAY, 8, 9), 4712, 12));
+    must(yk_store_insert(store, at(MONDAY, 8, 20), 4650, 7));
+    must(yk_store_update(store, at(TUESDAY, 9, 0), 4711, 15));
+    must(yk_store_update(store, at(WEDNESDAY, 9, 30), 4650, 4));
+    must(yk_store_insert(store, at(THURSDAY, 10, 0), 4800, 30));
+    must(yk_store_update(store, at(THURSDAY, 16, 45), 4711, 9));
+}
+
+/* What is no longer sold leaves on Friday. Thursday's last table is asked for often until the wholesaler has it,
+ * so it is kept before. */
+static void friday(yk_store *store) {
+    must(yk_store_keep(store, at(THURSDAY, 16, 45)));
+    must(yk_store_delete(store, at(FRIDAY, 8, 0), 4712));
+    must(yk_store_delete(store, at(FRIDAY, 8, 1), 4650));
+    must(yk_store_insert(store, at(FRIDAY, 8, 30), 4900, 16));
+}
+
+static void print_table(const yk_store *store, const char *name, uint64_t time) {
+    static uint8_t out[8 * LIMIT];
+    yk_table_answer answer = yk_store_table(store, time, out, sizeof out);
+    must((enum yk_question)answer.question);
+    printf("%s: %u articles\n", name, (unsigned)answer.rows);
+    for (uint32_t i = 0; i < answer.rows; i++) {
+        yk_row row = yk_row_at(out, i);
+        printf("  %u: %u\n", (unsigned)row.article, (unsigned)row.count);
+    }
+}
+
+static void print_net_change(const yk_store *store, const char *name, uint64_t from, uint64_t to) {
+    static uint8_t out[24 * LIMIT], work[16 * LIMIT];
+    yk_net_change_answer answer = yk_store_net_change(store, from, to, out, sizeof out, work, sizeof work);
+    must((enum yk_question)answer.question);
+    printf("%s: %u entries\n", name, (unsigned)answer.entries);
+    for (uint32_t i = 0; i < answer.entries; i++) {
+        yk_step step = yk_step_at(out, i);
+        printf("  %s %u: %u\n", step.kind == YK_DELETION ? "delete" : "insert", (unsigned)step.article,
+            (unsigned)step.count);
+    }
+}
+
+static void save(const yk_store *store, const char *name) {
+    size_t length = yk_store_log_bytes(store);
+    FILE *file = fopen(name, "wb");
+    if (file == NULL || fwrite(store->log, 1, length, file) != length || fclose(file) != 0) {
+        perror(name);
+        exit(1);
+    }
+    printf("saved %u bytes\n", (unsigned)length);
+}
+
+static void load(uint8_t *log, size_t length, const char *name) {
+    FILE *file = fopen(name, "rb");
+    if (file == NULL || (fread(log, 1, length, file) == 0 && ferror(file)) || fclose(file) != 0) {
+        perror(name);
+        exit(1);
+    }
+}
+
+int main(int many, char **arguments) {
+    static memory lent, again;
+    if (many != 2) {
+        fprintf(stderr, "usage: shift FILE\n");
+        return 2;
+    }
+    yk_store store = over(&lent);
+    must(yk_store_fresh(&store, ORDER, PAGE, LIMIT));
+    count_the_week(&store);
+    print_table(&store, "Tuesday evening", at(TUESDAY, 18, 0));
+    friday(&store);
+    print_table(&store, "now", store.numbers.last);
+    print_net_change(&store, "Thursday to Friday", at(THURSDAY, 16, 45), store.numbers.last);
+    must(yk_store_drop(&store, at(THURSDAY, 16, 45)));
+
+    enum yk_question no = yk_store_insert(&store, at(FRIDAY, 9, 0), 4711, 8);
+    printf("inserting 4711 is refused by %d: %s\n", no, yk_question_text(no));
+
+    save(&store, arguments[1]);
+    yk_store opened = over(&again);
+    load(opened.log, opened.log_length, arguments[1]);
+    must(yk_store_open(&opened));
+    printf("opened %u records, audit says %s\n", (unsigned)opened.numbers.records,
+        yk_store_audit(&opened) ? "yes" : "no");
+    must(yk_store_update(&opened, at(FRIDAY, 9, 0), 4711, 8));
+    print_table(&opened, "Tuesday evening, from the file", at(TUESDAY, 18, 0));
+    return 0;
+}

@@ -1,0 +1,127 @@
+//! A week with a handheld counter: shifts of counting, a past day's table, Friday's deletions, what a
+//! wholesaler gets, and the log written to a file and opened again. The argument is the file to write.
+//!
+//!     YK_LIB_DIR=$PWD/target/staticlib cargo run --manifest-path rust/Cargo.toml --example shift week.log
+
+use std::error::Error;
+use std::{env, fs};
+use yokefennel::{Entry, Lent, Refusal, Settings, Step, Store};
+
+// The maker's choice, and the memory that goes with it. The index has 2 words a page and `order` more, which
+// is always enough: see docs/GUIDE.md.
+const SETTINGS: Settings = Settings { order: 8, page: 16, limit: 100 };
+const RECORDS: usize = 1_000;
+const PAGES: usize = RECORDS.div_ceil(SETTINGS.page as usize);
+const TABLE: usize = 8 * SETTINGS.limit as usize;
+const FILES: usize = 2;
+
+struct Memory {
+    log: [u8; 24 + 24 * RECORDS],
+    index: [u64; 2 * PAGES + SETTINGS.order as usize],
+    table: [u8; TABLE],
+    entries: [Entry; FILES],
+    areas: [u8; FILES * TABLE],
+}
+
+impl Memory {
+    fn new() -> Memory {
+        Memory {
+            log: [0; 24 + 24 * RECORDS],
+            index: [0; 2 * PAGES + SETTINGS.order as usize],
+            table: [0; TABLE],
+            entries: [Entry::default(); FILES],
+            areas: [0; FILES * TABLE],
+        }
+    }
+
+    fn lend(&mut self) -> Lent<'_> {
+        Lent {
+            log: &mut self.log,
+            index: &mut self.index,
+            table: &mut self.table,
+            entries: &mut self.entries,
+            areas: &mut self.areas,
+        }
+    }
+}
+
+const MONDAY: u64 = 1;
+const TUESDAY: u64 = 2;
+const WEDNESDAY: u64 = 3;
+const THURSDAY: u64 = 4;
+const FRIDAY: u64 = 5;
+
+/// This maker's unit of time is the minute; Monday is day 1.
+fn at(day: u64, hour: u64, minute: u64) -> u64 {
+    (day * 24 + hour) * 60 + minute
+}
+
+fn count_the_week(store: &mut Store) -> Result<(), Refusal> {
+    store.insert(at(MONDAY, 8, 5), 4711, 20)?;
+    store.insert(at(MONDAY, 8, 9), 4712, 12)?;
+    store.insert(at(MONDAY, 8, 20), 4650, 7)?;
+    store.update(at(TUESDAY, 9, 0), 4711, 15)?;
+    store.update(at(WEDNESDAY, 9, 30), 4650, 4)?;
+    store.insert(at(THURSDAY, 10, 0), 4800, 30)?;
+    store.update(at(THURSDAY, 16, 45), 4711, 9)
+}
+
+/// What is no longer sold leaves on Friday. Thursday's last table is asked for often until the wholesaler has
+/// it, so it is kept before.
+fn friday(store: &mut Store) -> Result<(), Refusal> {
+    store.keep(at(THURSDAY, 16, 45))?;
+    store.delete(at(FRIDAY, 8, 0), 4712)?;
+    store.delete(at(FRIDAY, 8, 1), 4650)?;
+    store.insert(at(FRIDAY, 8, 30), 4900, 16)
+}
+
+fn print_table(store: &Store, name: &str, time: u64) -> Result<(), Refusal> {
+    let mut out = [0; TABLE];
+    let rows = store.table(time, &mut out)?.rows();
+    println!("{name}: {} articles", rows.len());
+    for row in rows {
+        println!("  {}: {}", row.article, row.count);
+    }
+    Ok(())
+}
+
+fn print_net_change(store: &Store, name: &str, from: u64, to: u64) -> Result<(), Refusal> {
+    let (mut out, mut work) = ([0; 3 * TABLE], [0; 2 * TABLE]);
+    let steps = store.net_change(from, to, &mut out, &mut work)?.steps();
+    println!("{name}: {} entries", steps.len());
+    for step in steps {
+        match step {
+            Step::Delete(row) => println!("  delete {}: {}", row.article, row.count),
+            Step::Insert(row) => println!("  insert {}: {}", row.article, row.count),
+        }
+    }
+    Ok(())
+}
+
+fn main() -> Result<(), Box<dyn Error>> {
+    let file = env::args().nth(1).ok_or("usage: shift FILE")?;
+    let mut memory = Memory::new();
+    let mut store = Store::fresh(SETTINGS, memory.lend())?;
+    count_the_week(&mut store)?;
+    print_table(&store, "Tuesday evening", at(TUESDAY, 18, 0))?;
+    friday(&mut store)?;
+    print_table(&store, "now", store.numbers().last)?;
+    print_net_change(&store, "Thursday to Friday", at(THURSDAY, 16, 45), store.numbers().last)?;
+    store.drop_file(at(THURSDAY, 16, 45))?;
+
+    if let Err(refusal) = store.insert(at(FRIDAY, 9, 0), 4711, 8) {
+        println!("inserting 4711 is {refusal}");
+    }
+
+    fs::write(&file, store.log())?;
+    println!("saved {} bytes", store.log().len());
+    let saved = fs::read(&file)?;
+    let mut memory = Memory::new();
+    memory.log.get_mut(..saved.len()).ok_or("the file is longer than the lent log")?.copy_from_slice(&saved);
+    let mut opened = Store::open(memory.lend())?;
+    let audit = if opened.audit() { "yes" } else { "no" };
+    println!("opened {} records, audit says {audit}", opened.numbers().records);
+    opened.update(at(FRIDAY, 9, 0), 4711, 8)?;
+    print_table(&opened, "Tuesday evening, from the file", at(TUESDAY, 18, 0))?;
+    Ok(())
+}

@@ -1,0 +1,86 @@
+//! A stock history store whose calls are proved, over memory that you lend.
+//!
+//! A [`Store`] borrows five slices ([`Lent`]): it allocates nothing, and holds nothing between calls but its
+//! [`Numbers`]. Counts are appended at rising times; the table of any past time, and the net change between two
+//! times, can be asked for.
+//!
+//! ```
+//! use yokefennel::{Entry, Lent, Row, Settings, Step, Store};
+//!
+//! let (mut log, mut index, mut table) = (vec![0; 24 + 24 * 100], vec![0; 108], vec![0; 8 * 4]);
+//! let (mut entries, mut areas) = ([Entry::default(); 2], [0; 2 * 8 * 4]);
+//! let lent = Lent {
+//!     log: &mut log,
+//!     index: &mut index,
+//!     table: &mut table,
+//!     entries: &mut entries,
+//!     areas: &mut areas,
+//! };
+//! let mut store = Store::fresh(Settings { order: 8, page: 2, limit: 4 }, lent)?;
+//! store.insert(10, 7, 50)?; // at time 10, article 7 with count 50
+//! store.update(30, 7, 44)?;
+//!
+//! let mut out = [0; 8 * 4];
+//! let rows: Vec<Row> = store.table(20, &mut out)?.rows().collect();
+//! assert_eq!(rows, [Row { article: 7, count: 50 }]);
+//!
+//! let (mut out, mut work) = ([0; 24 * 4], [0; 16 * 4]);
+//! let steps: Vec<Step> = store.net_change(20, 30, &mut out, &mut work)?.steps().collect();
+//! let (before, after) = (Row { article: 7, count: 50 }, Row { article: 7, count: 44 });
+//! assert_eq!(steps, [Step::Delete(before), Step::Insert(after)]);
+//! # Ok::<(), yokefennel::Refusal>(())
+//! ```
+//!
+//! - **Time**: its unit is yours. Each request's time is above the last one's, so the first is 1 or more; time 0
+//!   is that of the empty table, and no request has it.
+//! - **Lengths that suffice**: log 24 bytes and 24 for each record; table 8 × limit; areas 8 × limit for each
+//!   count file; `docs/GUIDE.md` has the rule for the index. No call needs a count file: entries and areas may
+//!   be empty.
+//! - **Saving**: [`Store::log`] is all that need be saved; [`Store::open`] makes the rest anew.
+//! - **Threads**: any number of stores on any number of threads.
+//! - **Damage**: whatever the lent memory holds, every call ends and stays within it. [`Store::audit`] says
+//!   whether it is such as accepted calls leave.
+//! - **Stack**: at most 16 kB for a call.
+//!
+//! The build needs `YK_LIB_DIR`, the folder of `libembed.a` (x86-64 Linux).
+#![no_std]
+#![warn(missing_docs)]
+
+mod bytes;
+pub mod raw;
+mod refusal;
+mod store;
+
+pub use bytes::{Row, Rows, Step, Steps};
+pub use refusal::Refusal;
+pub use store::{Lent, NetChange, Place, Settings, Side, Store, Table, View};
+
+/// The store's numbers. They say what the lent memory holds.
+#[repr(C)]
+#[derive(Clone, Copy, Debug, Default, PartialEq, Eq, Hash)]
+pub struct Numbers {
+    /// order of the packed tree, 2 to 64
+    pub order: u16,
+    /// records per page, 2 to 64
+    pub page: u16,
+    /// row limit, 1 to 1,024
+    pub limit: u32,
+    /// records in the log
+    pub records: u32,
+    /// time of the last request, 0 if there is none
+    pub last: u64,
+    /// rows of the current table
+    pub live: u32,
+    /// count files held
+    pub files: u32,
+}
+
+/// One entry of the catalogue.
+#[repr(C)]
+#[derive(Clone, Copy, Debug, Default, PartialEq, Eq, Hash)]
+pub struct Entry {
+    /// time of the count file
+    pub time: u64,
+    /// rows of its table
+    pub rows: u32,
+}

@@ -1,0 +1,153 @@
+//! Why a call was refused.
+
+use core::{error, fmt};
+
+/// The question answered no. Memory and numbers are as they were before the call, except where an opening is
+/// refused by [`WrongRecord`](Refusal::WrongRecord).
+#[derive(Clone, Copy, Debug, PartialEq, Eq, Hash)]
+pub enum Refusal {
+    /// 1: the numbers, the log's header and the lent lengths do not fit each other
+    Header,
+    /// 2: the order is not 2 to 64
+    Order,
+    /// 3: the records per page are not 2 to 64
+    PageSize,
+    /// 4: the row limit is not 1 to 1,024
+    RowLimit,
+    /// 5: the log, the index or the table is too short, or there are over 65,536 records
+    Memory,
+    /// 6: the time is not above the last
+    TimeNotAbove,
+    /// 7: the article is there already
+    ArticlePresent,
+    /// 8: the article is not there
+    ArticleAbsent,
+    /// 9: as many rows are live as the row limit allows
+    RowsFull,
+    /// 10: the log has no space for the request
+    LogFull,
+    /// 11: the index has no space for the nodes that the request needs, which may be two
+    IndexFull,
+    /// 12: the time is after the last request
+    TimeAfterLast,
+    /// 13: the output or the workspace is too short
+    OutputShort,
+    /// 14: the time is 0 or is kept already
+    NotToKeep,
+    /// 15: there is no space for another count file
+    CatalogueFull,
+    /// 16: no count file of that time is kept
+    NotKept,
+    /// 17: the log is not legal
+    WrongRecord {
+        /// the first wrong record, or the number of records where only the header's last time is wrong
+        record: u32,
+    },
+}
+
+impl Refusal {
+    /// The question's number in 01, 1 to 17.
+    pub fn question(self) -> u8 {
+        match self {
+            Refusal::Header => 1,
+            Refusal::Order => 2,
+            Refusal::PageSize => 3,
+            Refusal::RowLimit => 4,
+            Refusal::Memory => 5,
+            Refusal::TimeNotAbove => 6,
+            Refusal::ArticlePresent => 7,
+            Refusal::ArticleAbsent => 8,
+            Refusal::RowsFull => 9,
+            Refusal::LogFull => 10,
+            Refusal::IndexFull => 11,
+            Refusal::TimeAfterLast => 12,
+            Refusal::OutputShort => 13,
+            Refusal::NotToKeep => 14,
+            Refusal::CatalogueFull => 15,
+            Refusal::NotKept => 16,
+            Refusal::WrongRecord { .. } => 17,
+        }
+    }
+
+    /// The refusal of an answer, `None` where it was accepted. The library answers 0 to 17.
+    pub(crate) fn of(question: u8, record: u32) -> Option<Refusal> {
+        Some(match question {
+            0 => return None,
+            2 => Refusal::Order,
+            3 => Refusal::PageSize,
+            4 => Refusal::RowLimit,
+            5 => Refusal::Memory,
+            6 => Refusal::TimeNotAbove,
+            7 => Refusal::ArticlePresent,
+            8 => Refusal::ArticleAbsent,
+            9 => Refusal::RowsFull,
+            10 => Refusal::LogFull,
+            11 => Refusal::IndexFull,
+            12 => Refusal::TimeAfterLast,
+            13 => Refusal::OutputShort,
+            14 => Refusal::NotToKeep,
+            15 => Refusal::CatalogueFull,
+            16 => Refusal::NotKept,
+            17 => Refusal::WrongRecord { record },
+            _ => Refusal::Header,
+        })
+    }
+
+    fn text(self) -> &'static str {
+        match self {
+            Refusal::Header => "the numbers, the log's header and the lent lengths do not fit each other",
+            Refusal::Order => "the order is not 2 to 64",
+            Refusal::PageSize => "the records per page are not 2 to 64",
+            Refusal::RowLimit => "the row limit is not 1 to 1,024",
+            Refusal::Memory => {
+                "the log, the index or the table is too short, or there are over 65,536 records"
+            }
+            Refusal::TimeNotAbove => "the time is not above the last",
+            Refusal::ArticlePresent => "the article is there already",
+            Refusal::ArticleAbsent => "the article is not there",
+            Refusal::RowsFull => "as many rows are live as the row limit allows",
+            Refusal::LogFull => "the log has no space for the request",
+            Refusal::IndexFull => "the index has no space for the nodes that the request needs",
+            Refusal::TimeAfterLast => "the time is after the last request",
+            Refusal::OutputShort => "the output or the workspace is too short",
+            Refusal::NotToKeep => "the time is 0 or is kept already",
+            Refusal::CatalogueFull => "there is no space for another count file",
+            Refusal::NotKept => "no count file of that time is kept",
+            Refusal::WrongRecord { .. } => "the log is not legal",
+        }
+    }
+}
+
+impl fmt::Display for Refusal {
+    fn fmt(&self, f: &mut fmt::Formatter<'_>) -> fmt::Result {
+        write!(f, "refused by {}: {}", self.question(), self.text())?;
+        match self {
+            Refusal::WrongRecord { record } => write!(f, ", first at record {record}"),
+            _ => Ok(()),
+        }
+    }
+}
+
+impl error::Error for Refusal {}
+
+#[cfg(test)]
+mod tests {
+    use super::Refusal;
+    extern crate std;
+    use std::string::ToString;
+
+    #[test]
+    fn each_number_has_its_refusal() {
+        assert_eq!(Refusal::of(0, 0), None);
+        for question in 1..=17 {
+            assert_eq!(Refusal::of(question, 3).unwrap().question(), question);
+        }
+    }
+
+    #[test]
+    fn words_begin_with_the_number() {
+        assert_eq!(Refusal::TimeNotAbove.to_string(), "refused by 6: the time is not above the last");
+        let wrong = Refusal::WrongRecord { record: 4 };
+        assert_eq!(wrong.to_string(), "refused by 17: the log is not legal, first at record 4");
+    }
+}

@@ -1,0 +1,381 @@
+//! The handle: numbers and lent memory together.
+
+use crate::{raw, Entry, Numbers, Refusal, Rows, Steps};
+
+/// What a maker chooses.
+#[derive(Clone, Copy, Debug, PartialEq, Eq, Hash)]
+pub struct Settings {
+    /// order of the packed tree, 2 to 64
+    pub order: u16,
+    /// records per page, 2 to 64
+    pub page: u16,
+    /// row limit, 1 to 1,024
+    pub limit: u32,
+}
+
+/// The lent memory. What lies past the lengths that suffice stays as it was.
+#[derive(Debug)]
+pub struct Lent<'a> {
+    /// header and records: 24 bytes, and 24 for each record
+    pub log: &'a mut [u8],
+    /// the packed tree: order − 1 words for each node
+    pub index: &'a mut [u64],
+    /// the current table: 8 × limit bytes
+    pub table: &'a mut [u8],
+    /// the catalogue: one for each count file, up to 16
+    pub entries: &'a mut [Entry],
+    /// the tables of the count files: 8 × limit bytes each
+    pub areas: &'a mut [u8],
+}
+
+/// A store over borrowed memory.
+#[derive(Debug)]
+pub struct Store<'a> {
+    numbers: Numbers,
+    lent: Lent<'a>,
+}
+
+/// Which way from a time the table lies that its own is worked out from.
+#[derive(Clone, Copy, Debug, PartialEq, Eq, Hash)]
+pub enum Side {
+    /// at or before it
+    Earlier,
+    /// at or after it
+    Later,
+}
+
+/// The table of a time, in the output that was lent for it.
+#[derive(Clone, Copy, Debug)]
+pub struct Table<'o> {
+    bytes: &'o [u8],
+    rows: u32,
+    /// where it was worked out from
+    pub side: Side,
+    /// how many pages that is away
+    pub distance: u32,
+}
+
+/// Where the rows of a view lie.
+#[derive(Clone, Copy, Debug, PartialEq, Eq, Hash)]
+pub enum Place {
+    /// time 0: no rows
+    Empty,
+    /// the count file with this number, from 0
+    File(usize),
+    /// the current table
+    Current,
+}
+
+/// The rows that the table of a time is worked out from, where they lie.
+#[derive(Clone, Copy, Debug)]
+pub struct View<'s> {
+    bytes: &'s [u8],
+    rows: u32,
+    /// where they lie
+    pub place: Place,
+    /// whether they are those of an earlier or a later time
+    pub side: Side,
+    /// how many pages that time is away
+    pub distance: u32,
+}
+
+/// A net change, in the output that was lent for it.
+#[derive(Clone, Copy, Debug)]
+pub struct NetChange<'o> {
+    bytes: &'o [u8],
+    entries: u32,
+}
+
+impl<'o> Table<'o> {
+    /// Its rows.
+    pub fn rows(&self) -> Rows<'o> {
+        Rows::of(self.bytes, self.rows)
+    }
+
+    /// The count of an article, if it is there.
+    pub fn count(&self, article: u32) -> Option<u32> {
+        self.rows().find(|row| row.article == article).map(|row| row.count)
+    }
+}
+
+impl<'s> View<'s> {
+    /// The rows.
+    pub fn rows(&self) -> Rows<'s> {
+        Rows::of(self.bytes, self.rows)
+    }
+}
+
+impl<'o> NetChange<'o> {
+    /// Its entries.
+    pub fn steps(&self) -> Steps<'o> {
+        Steps::of(self.bytes, self.entries)
+    }
+
+    /// Its bytes as 01 lays them out, 12 for each entry: what a wholesaler is sent.
+    pub fn bytes(&self) -> &'o [u8] {
+        front(self.bytes, (self.entries as usize).saturating_mul(12))
+    }
+}
+
+/// The first bytes, or as many as there are.
+fn front(bytes: &[u8], length: usize) -> &[u8] {
+    &bytes[..length.min(bytes.len())]
+}
+
+fn side(later: u8) -> Side {
+    if later == 0 {
+        Side::Earlier
+    } else {
+        Side::Later
+    }
+}
+
+fn accepted(question: u8) -> Result<(), Refusal> {
+    Refusal::of(question, 0).map_or(Ok(()), Err)
+}
+
+// Each call below passes the pointer and the length of slices that are borrowed as long as it runs, those that
+// it may write as `&mut`; a slice's pointer is never null, and the library keeps none of them. That is all that
+// it asks.
+#[rustfmt::skip]
+impl<'a> Store<'a> {
+    /// Starts an empty store: writes the log's header, zeroes table and catalogue.
+    ///
+    /// Refuses by 2, 3, 4, 5.
+    pub fn fresh(settings: Settings, lent: Lent<'a>) -> Result<Store<'a>, Refusal> {
+        let mut store = Store::resume(Numbers::default(), lent);
+        let Lent { log, table, entries, areas, .. } = &mut store.lent;
+        let answer = unsafe {
+            raw::yk_fresh(
+                settings.order, settings.page, settings.limit,
+                log.as_mut_ptr(), log.len(), table.as_mut_ptr(), table.len(),
+                entries.as_mut_ptr(), entries.len(), areas.as_ptr(), areas.len(),
+            )
+        };
+        store.take(answer)?;
+        Ok(store)
+    }
+
+    /// Takes up the written log that the lent one starts with: makes index and table, zeroes the catalogue.
+    ///
+    /// Refuses by 1 to 5 and 17.
+    pub fn open(lent: Lent<'a>) -> Result<Store<'a>, Refusal> {
+        let mut store = Store::resume(Numbers::default(), lent);
+        let Lent { log, index, table, entries, areas } = &mut store.lent;
+        let answer = unsafe {
+            raw::yk_open(
+                log.as_ptr(), log.len(), index.as_mut_ptr(), index.len(), table.as_mut_ptr(), table.len(),
+                entries.as_mut_ptr(), entries.len(), areas.as_ptr(), areas.len(),
+            )
+        };
+        store.take(answer)?;
+        Ok(store)
+    }
+
+    /// Goes on with memory and numbers that a store left, for instance in memory that survives a restart. Nothing
+    /// is looked at: ask [`audit`](Store::audit).
+    pub fn resume(numbers: Numbers, lent: Lent<'a>) -> Store<'a> {
+        Store { numbers, lent }
+    }
+
+    /// The numbers and the memory, given back.
+    pub fn give_back(self) -> (Numbers, Lent<'a>) {
+        (self.numbers, self.lent)
+    }
+
+    /// The numbers.
+    pub fn numbers(&self) -> Numbers {
+        self.numbers
+    }
+
+    /// The bytes of the log to save, header and records: nothing else need be.
+    pub fn log(&self) -> &[u8] {
+        front(self.lent.log, 24 + 24 * self.numbers.records as usize)
+    }
+
+    /// The rows of the current table.
+    pub fn rows(&self) -> Rows<'_> {
+        Rows::of(self.lent.table, self.numbers.live)
+    }
+
+    /// The count files held, ascending by time.
+    pub fn files(&self) -> &[Entry] {
+        &self.lent.entries[..(self.numbers.files as usize).min(self.lent.entries.len())]
+    }
+
+    /// Adds an absent article with a count at a time above the last.
+    ///
+    /// Refuses by 1, 6, 7, 9, 10, 11.
+    pub fn insert(&mut self, time: u64, article: u32, count: u32) -> Result<(), Refusal> {
+        let Lent { log, index, table, entries, areas } = &mut self.lent;
+        let answer = unsafe {
+            raw::yk_insert(
+                self.numbers,
+                log.as_mut_ptr(), log.len(), index.as_mut_ptr(), index.len(), table.as_mut_ptr(), table.len(),
+                entries.as_ptr(), entries.len(), areas.as_ptr(), areas.len(),
+                time, article, count,
+            )
+        };
+        self.take(answer)
+    }
+
+    /// Removes a present article at a time above the last.
+    ///
+    /// Refuses by 1, 6, 8, 10, 11.
+    pub fn delete(&mut self, time: u64, article: u32) -> Result<(), Refusal> {
+        let Lent { log, index, table, entries, areas } = &mut self.lent;
+        let answer = unsafe {
+            raw::yk_delete(
+                self.numbers,
+                log.as_mut_ptr(), log.len(), index.as_mut_ptr(), index.len(), table.as_mut_ptr(), table.len(),
+                entries.as_ptr(), entries.len(), areas.as_ptr(), areas.len(),
+                time, article,
+            )
+        };
+        self.take(answer)
+    }
+
+    /// Gives a present article another count, or the same, at a time above the last: two records.
+    ///
+    /// Refuses by 1, 6, 8, 10, 11.
+    pub fn update(&mut self, time: u64, article: u32, count: u32) -> Result<(), Refusal> {
+        let Lent { log, index, table, entries, areas } = &mut self.lent;
+        let answer = unsafe {
+            raw::yk_update(
+                self.numbers,
+                log.as_mut_ptr(), log.len(), index.as_mut_ptr(), index.len(), table.as_mut_ptr(), table.len(),
+                entries.as_ptr(), entries.len(), areas.as_ptr(), areas.len(),
+                time, article, count,
+            )
+        };
+        self.take(answer)
+    }
+
+    /// Keeps the table of a time as a count file, so that tables near it are found sooner.
+    ///
+    /// Refuses by 1, 12, 14, 15.
+    pub fn keep(&mut self, time: u64) -> Result<(), Refusal> {
+        let Lent { log, index, table, entries, areas } = &mut self.lent;
+        let answer = unsafe {
+            raw::yk_keep(
+                self.numbers,
+                log.as_ptr(), log.len(), index.as_ptr(), index.len(), table.as_ptr(), table.len(),
+                entries.as_mut_ptr(), entries.len(), areas.as_mut_ptr(), areas.len(),
+                time,
+            )
+        };
+        self.take(answer)
+    }
+
+    /// Gives up the count file of a time. (The name `drop` is the language's own.)
+    ///
+    /// Refuses by 1, 16.
+    pub fn drop_file(&mut self, time: u64) -> Result<(), Refusal> {
+        let Lent { log, index, table, entries, areas } = &mut self.lent;
+        let answer = unsafe {
+            raw::yk_drop(
+                self.numbers,
+                log.as_ptr(), log.len(), index.as_ptr(), index.len(), table.as_ptr(), table.len(),
+                entries.as_mut_ptr(), entries.len(), areas.as_mut_ptr(), areas.len(),
+                time,
+            )
+        };
+        self.take(answer)
+    }
+
+    /// The page position of a time.
+    ///
+    /// Refuses by 1, 12.
+    pub fn position(&self, time: u64) -> Result<u32, Refusal> {
+        let Lent { log, index, table, entries, areas } = &self.lent;
+        let answer = unsafe {
+            raw::yk_position(
+                self.numbers,
+                log.as_ptr(), log.len(), index.as_ptr(), index.len(), table.as_ptr(), table.len(),
+                entries.as_ptr(), entries.len(), areas.as_ptr(), areas.len(),
+                time,
+            )
+        };
+        accepted(answer.question)?;
+        Ok(answer.page)
+    }
+
+    /// The table of a time, into the first 8 × limit bytes of `out`.
+    ///
+    /// Refuses by 1, 12, 13.
+    pub fn table<'o>(&self, time: u64, out: &'o mut [u8]) -> Result<Table<'o>, Refusal> {
+        let Lent { log, index, table, entries, areas } = &self.lent;
+        let answer = unsafe {
+            raw::yk_table(
+                self.numbers,
+                log.as_ptr(), log.len(), index.as_ptr(), index.len(), table.as_ptr(), table.len(),
+                entries.as_ptr(), entries.len(), areas.as_ptr(), areas.len(),
+                time, out.as_mut_ptr(), out.len(),
+            )
+        };
+        accepted(answer.question)?;
+        Ok(Table { bytes: out, rows: answer.rows, side: side(answer.later), distance: answer.distance })
+    }
+
+    /// The rows that the table of a time is worked out from, where they lie.
+    ///
+    /// Refuses by 1, 12.
+    pub fn view(&self, time: u64) -> Result<View<'_>, Refusal> {
+        let Lent { log, index, table, entries, areas } = &self.lent;
+        let answer = unsafe {
+            raw::yk_view(
+                self.numbers,
+                log.as_ptr(), log.len(), index.as_ptr(), index.len(), table.as_ptr(), table.len(),
+                entries.as_ptr(), entries.len(), areas.as_ptr(), areas.len(),
+                time,
+            )
+        };
+        accepted(answer.question)?;
+        let (region, place) = match answer.place {
+            1 => (&**areas, Place::File(answer.area as usize)),
+            2 => (&**table, Place::Current),
+            _ => (&**table, Place::Empty),
+        };
+        let bytes = front(region.get(answer.start..).unwrap_or(&[]), answer.length);
+        Ok(View { bytes, rows: answer.rows, place, side: side(answer.later), distance: answer.distance })
+    }
+
+    /// What leads from the table of time a to that of time b, a before or after b, into the first 24 × limit
+    /// bytes of `out`. The first 16 × limit bytes of `work` then hold the table of a and the table of b.
+    ///
+    /// Refuses by 1, 12, 13.
+    pub fn net_change<'o>(
+        &self, a: u64, b: u64, out: &'o mut [u8], work: &mut [u8],
+    ) -> Result<NetChange<'o>, Refusal> {
+        let Lent { log, index, table, entries, areas } = &self.lent;
+        let answer = unsafe {
+            raw::yk_net_change(
+                self.numbers,
+                log.as_ptr(), log.len(), index.as_ptr(), index.len(), table.as_ptr(), table.len(),
+                entries.as_ptr(), entries.len(), areas.as_ptr(), areas.len(),
+                a, b, out.as_mut_ptr(), out.len(), work.as_mut_ptr(), work.len(),
+            )
+        };
+        accepted(answer.question)?;
+        Ok(NetChange { bytes: out, entries: answer.entries })
+    }
+
+    /// Whether numbers and lent memory are such as accepted calls leave. Then all calls answer as promised.
+    pub fn audit(&self) -> bool {
+        let Lent { log, index, table, entries, areas } = &self.lent;
+        let answer = unsafe {
+            raw::yk_audit(
+                self.numbers,
+                log.as_ptr(), log.len(), index.as_ptr(), index.len(), table.as_ptr(), table.len(),
+                entries.as_ptr(), entries.len(), areas.as_ptr(), areas.len(),
+            )
+        };
+        answer == 1
+    }
+
+    /// Goes on with the numbers of an answer.
+    fn take(&mut self, answer: raw::Change) -> Result<(), Refusal> {
+        self.numbers = answer.numbers;
+        Refusal::of(answer.question, answer.record).map_or(Ok(()), Err)
+    }
+}

@@ -1,0 +1,228 @@
+//! 01's log by hand, through the handle.
+
+use yokefennel::{Entry, Lent, Numbers, Place, Refusal, Row, Settings, Side, Step, Store};
+
+const SETTINGS: Settings = Settings { order: 3, page: 2, limit: 4 };
+
+struct Memory {
+    log: Vec<u8>,
+    index: Vec<u64>,
+    table: Vec<u8>,
+    entries: Vec<Entry>,
+    areas: Vec<u8>,
+}
+
+impl Memory {
+    /// Memory for this many records and count files; the index has what any order needs.
+    fn of(records: usize, files: usize) -> Memory {
+        Memory {
+            log: vec![0xA5; 24 + 24 * records],
+            index: vec![0xA5; 2 * records.div_ceil(2) + 3],
+            table: vec![0xA5; 32],
+            entries: vec![Entry { time: 9, rows: 9 }; files],
+            areas: vec![0xA5; 32 * files],
+        }
+    }
+
+    fn lend(&mut self) -> Lent<'_> {
+        Lent {
+            log: &mut self.log,
+            index: &mut self.index,
+            table: &mut self.table,
+            entries: &mut self.entries,
+            areas: &mut self.areas,
+        }
+    }
+}
+
+fn row(article: u32, count: u32) -> Row {
+    Row { article, count }
+}
+
+fn build(memory: &mut Memory) -> Store<'_> {
+    let mut store = Store::fresh(SETTINGS, memory.lend()).unwrap();
+    store.insert(10, 7, 50).unwrap();
+    store.insert(20, 3, 12).unwrap();
+    store.update(30, 7, 44).unwrap();
+    store.delete(40, 3).unwrap();
+    store.insert(50, 9, 5).unwrap();
+    store.update(60, 9, 6).unwrap();
+    store
+}
+
+fn table(store: &Store, time: u64) -> (Vec<Row>, Side, u32) {
+    let mut out = [0xA5; 32];
+    let table = store.table(time, &mut out).unwrap();
+    (table.rows().collect(), table.side, table.distance)
+}
+
+#[test]
+fn log_numbers_and_positions() {
+    let mut memory = Memory::of(9, 2);
+    let store = build(&mut memory);
+    let numbers = Numbers { order: 3, page: 2, limit: 4, records: 8, last: 60, live: 2, files: 0 };
+    assert_eq!(store.numbers(), numbers);
+    assert_eq!(store.log(), std::fs::read("../samples/log-by-hand.log").unwrap());
+    assert_eq!(store.rows().collect::<Vec<_>>(), [row(7, 44), row(9, 6)]);
+    let pages = [0, 29, 30, 35, 40, 60].map(|time| store.position(time).unwrap());
+    assert_eq!(pages, [0, 0, 1, 1, 2, 3]);
+    assert!(store.audit());
+}
+
+#[test]
+fn tables_and_net_changes() {
+    let mut memory = Memory::of(9, 2);
+    let store = build(&mut memory);
+    assert_eq!(table(&store, 20), (vec![row(3, 12), row(7, 50)], Side::Earlier, 0));
+    assert_eq!(table(&store, 45), (vec![row(7, 44)], Side::Later, 1));
+    let mut out = [0; 32];
+    let day = store.table(20, &mut out).unwrap();
+    assert_eq!((day.count(3), day.count(4)), (Some(12), None));
+
+    let (mut out, mut work) = ([0xA5; 96], [0xA5; 64]);
+    let change = store.net_change(20, 45, &mut out, &mut work).unwrap();
+    let steps = [Step::Delete(row(3, 12)), Step::Delete(row(7, 50)), Step::Insert(row(7, 44))];
+    assert_eq!(change.steps().collect::<Vec<_>>(), steps);
+    assert_eq!(change.bytes().len(), 36);
+    assert_eq!(store.net_change(30, 35, &mut out, &mut work).unwrap().steps().len(), 0);
+}
+
+#[test]
+fn count_files_and_views() {
+    let mut memory = Memory::of(9, 2);
+    let mut store = build(&mut memory);
+    store.keep(20).unwrap();
+    assert_eq!(store.files(), [Entry { time: 20, rows: 2 }]);
+    let view = store.view(30).unwrap();
+    assert_eq!((view.place, view.side, view.distance), (Place::File(0), Side::Earlier, 1));
+    assert_eq!(view.rows().collect::<Vec<_>>(), [row(3, 12), row(7, 50)]);
+    assert_eq!(store.view(45).unwrap().place, Place::Current);
+    assert_eq!(store.view(0).unwrap().rows().len(), 0);
+    assert_eq!(store.keep(20), Err(Refusal::NotToKeep));
+    store.keep(40).unwrap();
+    assert_eq!(store.keep(30), Err(Refusal::CatalogueFull));
+    store.drop_file(20).unwrap();
+    assert_eq!(store.drop_file(20), Err(Refusal::NotKept));
+    assert_eq!(table(&store, 30), (vec![row(3, 12), row(7, 44)], Side::Earlier, 1));
+    assert!(store.audit());
+}
+
+#[test]
+fn refusals_change_nothing() {
+    let mut memory = Memory::of(9, 2);
+    let mut store = build(&mut memory);
+    let numbers = store.numbers();
+    assert_eq!(store.insert(60, 1, 1), Err(Refusal::TimeNotAbove));
+    assert_eq!(store.insert(61, 7, 1), Err(Refusal::ArticlePresent));
+    assert_eq!(store.delete(61, 3), Err(Refusal::ArticleAbsent));
+    assert_eq!(store.update(61, 9, 7), Err(Refusal::LogFull));
+    assert_eq!(store.position(61), Err(Refusal::TimeAfterLast));
+    assert_eq!(store.table(20, &mut [0; 31]).unwrap_err(), Refusal::OutputShort);
+    assert_eq!(store.net_change(20, 45, &mut [0; 96], &mut []).unwrap_err(), Refusal::OutputShort);
+    assert_eq!(store.numbers(), numbers);
+    assert!(store.audit());
+}
+
+#[test]
+fn starts_that_are_refused() {
+    let settings = |order, page, limit| Settings { order, page, limit };
+    let mut memory = Memory::of(9, 2);
+    assert_eq!(Store::fresh(settings(1, 2, 4), memory.lend()).unwrap_err(), Refusal::Order);
+    assert_eq!(Store::fresh(settings(3, 65, 4), memory.lend()).unwrap_err(), Refusal::PageSize);
+    assert_eq!(Store::fresh(settings(3, 2, 0), memory.lend()).unwrap_err(), Refusal::RowLimit);
+    assert_eq!(Store::fresh(settings(3, 2, 5), memory.lend()).unwrap_err(), Refusal::Memory);
+    assert_eq!(Store::open(memory.lend()).unwrap_err(), Refusal::Header);
+}
+
+#[test]
+fn opening_and_a_wrong_record() {
+    let mut memory = Memory::of(9, 2);
+    build(&mut memory);
+    let (index, table) = (memory.index.clone(), memory.table.clone());
+    memory.index.fill(0xA5);
+    memory.table.fill(0xA5);
+    assert!(Store::open(memory.lend()).unwrap().audit());
+    assert!(memory.index == index && memory.table == table, "the same to the byte");
+    memory.log[24 + 24 * 4 + 20] ^= 1;
+    assert_eq!(Store::open(memory.lend()).unwrap_err(), Refusal::WrongRecord { record: 4 });
+    memory.log[24 + 24 * 4 + 20] ^= 1;
+    memory.log[16] ^= 1;
+    assert_eq!(Store::open(memory.lend()).unwrap_err(), Refusal::WrongRecord { record: 8 });
+}
+
+/// What docs/GUIDE.md advises at 17: the records before the first wrong one are a legal log.
+#[test]
+fn the_records_before_a_wrong_one() {
+    for wrong in 0..8usize {
+        let mut memory = Memory::of(9, 2);
+        build(&mut memory);
+        memory.log[24 + 24 * wrong] = 0;
+        let refusal = Store::open(memory.lend()).unwrap_err();
+        assert_eq!(refusal, Refusal::WrongRecord { record: wrong as u32 });
+        memory.log[12..16].copy_from_slice(&(wrong as u32).to_le_bytes());
+        let time = 24 * wrong + 8;
+        let last = if wrong == 0 { [0; 8] } else { memory.log[time..time + 8].try_into().unwrap() };
+        memory.log[16..24].copy_from_slice(&last);
+        let store = Store::open(memory.lend()).unwrap();
+        assert!(store.audit() && store.numbers().records == wrong as u32);
+    }
+}
+
+#[test]
+fn no_count_files_and_nothing_lent() {
+    let mut memory = Memory::of(9, 0);
+    let mut store = build(&mut memory);
+    assert!(store.audit() && store.files().is_empty());
+    assert_eq!(store.keep(20), Err(Refusal::CatalogueFull));
+    assert_eq!(table(&store, 20).0, [row(3, 12), row(7, 50)]);
+    let nothing = || Lent { log: &mut [], index: &mut [], table: &mut [], entries: &mut [], areas: &mut [] };
+    assert_eq!(Store::fresh(SETTINGS, nothing()).unwrap_err(), Refusal::Memory);
+    assert_eq!(Store::open(nothing()).unwrap_err(), Refusal::Header);
+    assert!(!Store::resume(Numbers::default(), nothing()).audit());
+}
+
+/// Every byte of every region wrong in turn: the audit sees it, and no call leaves the memory or panics.
+#[test]
+fn damaged_memory() {
+    let mut memory = Memory::of(9, 2);
+    let mut store = build(&mut memory);
+    store.keep(20).unwrap();
+    let (numbers, _) = store.give_back();
+    let (mut out, mut work) = ([0; 96], [0; 64]);
+    for (region, length) in [(0, 24 + 24 * 8), (1, 6), (2, 32), (3, 1), (4, 32)] {
+        for place in 0..length {
+            let damage = |memory: &mut Memory| match region {
+                0 => memory.log[place] ^= 0x81,
+                1 => memory.index[place] ^= 0x81,
+                2 => memory.table[place] ^= 0x81,
+                3 => memory.entries[place].rows ^= 0x81,
+                _ => memory.areas[place] ^= 0x81,
+            };
+            damage(&mut memory);
+            let store = Store::resume(numbers, memory.lend());
+            assert!(!store.audit(), "region {region}, place {place}");
+            for time in [0, 15, 30, 60] {
+                let _ = store.view(time).map(|view| view.rows().count());
+                let _ = store.table(time, &mut out).map(|table| table.rows().count());
+                let _ = store.net_change(time, 45, &mut out, &mut work).map(|change| change.steps().count());
+            }
+            damage(&mut memory);
+        }
+    }
+    assert!(Store::resume(numbers, memory.lend()).audit());
+}
+
+#[test]
+fn stores_go_to_threads() {
+    fn sendable<T: Send + Sync>(_: &T) {}
+    let mut memory = Memory::of(9, 2);
+    let store = build(&mut memory);
+    sendable(&store);
+    std::thread::scope(|scope| {
+        let asked = [10, 20, 45].map(|time| {
+            let store = &store;
+            scope.spawn(move || table(store, time).0.len())
+        });
+        assert_eq!(asked.map(|thread| thread.join().unwrap()), [1, 2, 1]);
+    });
+}

@@ -1,0 +1,134 @@
+/* The handle: each of its functions, regions that are not lent, and every question in words. It reads as C99,
+ * C11 and C++17. */
+#include <stdio.h>
+#include <stdlib.h>
+#include <string.h>
+
+#include "yokefennel.h"
+
+enum { LIMIT = 4, LOG = 24 + 24 * 9, INDEX = 8, FILES = 2 };
+
+static uint8_t log_bytes[LOG], table[8 * LIMIT], areas[FILES * 8 * LIMIT], out[24 * LIMIT], work[16 * LIMIT];
+static uint64_t index_words[INDEX];
+static yk_entry entries[FILES];
+
+static void require(int holds, const char *what) {
+    if (!holds) {
+        fprintf(stderr, "handle: %s\n", what);
+        exit(1);
+    }
+}
+
+static yk_store over(int with_files) {
+    yk_store store;
+    memset(&store, 0, sizeof store);
+    store.log = log_bytes;
+    store.log_length = LOG;
+    store.index = index_words;
+    store.index_length = INDEX;
+    store.table = table;
+    store.table_length = sizeof table;
+    if (with_files) {
+        store.entries = entries;
+        store.entries_length = FILES;
+        store.areas = areas;
+        store.areas_length = sizeof areas;
+    }
+    return store;
+}
+
+/* 01's log by hand. */
+static void build(yk_store *store) {
+    require(yk_store_fresh(store, 3, 2, LIMIT) == YK_ACCEPTED && yk_store_log_bytes(store) == 24, "fresh");
+    require(yk_store_insert(store, 10, 7, 50) == YK_ACCEPTED, "insert 7");
+    require(yk_store_insert(store, 20, 3, 12) == YK_ACCEPTED, "insert 3");
+    require(yk_store_update(store, 30, 7, 44) == YK_ACCEPTED, "update 7");
+    require(yk_store_delete(store, 40, 3) == YK_ACCEPTED, "delete 3");
+    require(yk_store_insert(store, 50, 9, 5) == YK_ACCEPTED, "insert 9");
+    require(yk_store_update(store, 60, 9, 6) == YK_ACCEPTED, "update 9");
+    require(store->numbers.records == 8 && store->numbers.last == 60 && store->numbers.live == 2, "numbers");
+    require(yk_store_log_bytes(store) == 24 + 24 * 8 && yk_store_audit(store), "what to save");
+}
+
+static int row_is(yk_row row, uint32_t article, uint32_t count) {
+    return row.article == article && row.count == count;
+}
+
+static int step_is(yk_step step, int kind, uint32_t article, uint32_t count) {
+    return step.kind == kind && step.article == article && step.count == count;
+}
+
+static void ask(const yk_store *store) {
+    yk_table_answer day = yk_store_table(store, 20, out, sizeof out);
+    require(day.question == YK_ACCEPTED && day.rows == 2, "the table of 20");
+    require(row_is(yk_row_at(out, 0), 3, 12) && row_is(yk_row_at(out, 1), 7, 50), "its rows");
+    require(yk_store_position(store, 40).page == 2, "position");
+    yk_net_change_answer change = yk_store_net_change(store, 20, 45, out, sizeof out, work, sizeof work);
+    require(change.question == YK_ACCEPTED && change.entries == 3, "net change");
+    require(step_is(yk_step_at(out, 0), YK_DELETION, 3, 12) && step_is(yk_step_at(out, 1), YK_DELETION, 7, 50)
+            && step_is(yk_step_at(out, 2), YK_INSERTION, 7, 44),
+        "its entries");
+    require(yk_store_table(store, 20, NULL, 32).question == YK_OUTPUT_SHORT, "no output");
+    require(yk_store_net_change(store, 20, 45, NULL, 0, NULL, 0).question == YK_OUTPUT_SHORT, "no outputs");
+}
+
+static void count_files(yk_store *store) {
+    require(yk_store_keep(store, 20) == YK_ACCEPTED && store->numbers.files == 1, "keep");
+    yk_view_answer view = yk_store_view(store, 30);
+    yk_part part = yk_store_view_part(store, view);
+    require(view.place == YK_AREA && part.bytes == areas && part.length == 16, "view");
+    require(row_is(yk_row_at(part.bytes, 1), 7, 50), "a view's row");
+    require(yk_store_keep(store, 20) == YK_NOT_TO_KEEP && store->numbers.files == 1, "numbers of a refusal");
+    require(yk_store_drop(store, 20) == YK_ACCEPTED && store->numbers.files == 0, "drop");
+}
+
+static void open_again(void) {
+    yk_store store = over(1);
+    require(yk_store_log_bytes(&store) == 0, "nothing to save before a start");
+    require(yk_store_open(&store) == YK_ACCEPTED && store.numbers.records == 8, "open");
+    require(yk_store_audit(&store) == 1, "audit of the opened store");
+    log_bytes[24 + 24 * 4 + 20] ^= 1;
+    require(yk_store_open(&store) == YK_WRONG_RECORD && store.record == 4, "the first wrong record");
+    require(store.numbers.order == 0 && store.numbers.records == 0, "numbers of a refused opening");
+    log_bytes[24 + 24 * 4 + 20] ^= 1;
+}
+
+/* Null regions: as if of length 0, whatever length stands beside them. */
+static void not_lent(void) {
+    yk_store store = over(0);
+    build(&store);
+    ask(&store);
+    require(yk_store_keep(&store, 20) == YK_CATALOGUE_FULL, "keep without areas");
+    require(yk_store_view_part(&store, yk_store_view(&store, 0)).length == 0, "an empty view");
+    memset(&store, 0, sizeof store);
+    store.log_length = store.table_length = 1000;
+    require(yk_store_fresh(&store, 3, 2, LIMIT) == YK_MEMORY, "fresh with nothing lent");
+    require(yk_store_open(&store) == YK_HEADER, "open with nothing lent");
+    require(yk_store_insert(&store, 1, 1, 1) == YK_HEADER && !yk_store_audit(&store), "no store");
+}
+
+static void words(void) {
+    for (unsigned question = 0; question <= 17; question++) {
+        const char *text = yk_question_text(question);
+        require(strcmp(text, "no such question") != 0, "each question has words");
+        for (unsigned other = 0; other < question; other++) {
+            require(strcmp(text, yk_question_text(other)) != 0, "and its own");
+        }
+    }
+    require(strcmp(yk_question_text(18), "no such question") == 0, "no question 18");
+    char version[32];
+    snprintf(version, sizeof version, "%d.%d.%d", YK_VERSION_MAJOR, YK_VERSION_MINOR, YK_VERSION_PATCH);
+    require(strcmp(version, yk_version()) == 0, "one version");
+}
+
+int main(void) {
+    yk_store store = over(1);
+    build(&store);
+    ask(&store);
+    count_files(&store);
+    open_again();
+    not_lent();
+    words();
+    puts("handle: ok");
+    return 0;
+}
