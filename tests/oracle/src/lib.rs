@@ -14,6 +14,7 @@ pub mod plain;
 #[cfg(feature = "proved")]
 pub mod proved;
 pub mod random;
+pub mod requests;
 pub mod samples;
 pub mod store;
 pub mod table;

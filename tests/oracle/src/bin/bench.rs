@@ -6,6 +6,7 @@ use oracle::log::log_length;
 use oracle::plain::Plain;
 use oracle::proved::{Memory, Store};
 use oracle::random::Random;
+use oracle::requests::{colliding, requests, Request};
 use oracle::store::Lengths;
 use oracle::table::table_length;
 use oracle::tree::word_count;
@@ -18,40 +19,6 @@ const ROW_LIMIT: u32 = 1_024;
 const RUNS: usize = 15;
 const POSITIONS: usize = 100_000;
 const TABLES: usize = 20;
-
-#[derive(Clone, Copy)]
-enum Request {
-    Insert(u64, u32, u32),
-    Delete(u64, u32),
-    Update(u64, u32, u32),
-}
-
-/// Requests that fill the log: 1,024 rows, then a deletion and an insertion, and updates, in turn.
-fn requests(random: &mut Random) -> Vec<Request> {
-    let mut live: Vec<u32> = Vec::new();
-    let (mut requests, mut records, mut time) = (Vec::new(), 0, 0);
-    while records < MOST_RECORDS {
-        time += random.from(1, 9);
-        let count = random.next() as u32;
-        let full = live.len() == ROW_LIMIT as usize;
-        if full && random.percent(50) && records + 2 <= MOST_RECORDS {
-            requests.push(Request::Update(time, random.pick(&live), count));
-            records += 2;
-        } else if full {
-            let place = random.place(live.len());
-            requests.push(Request::Delete(time, live.swap_remove(place)));
-            records += 1;
-        } else {
-            let article = random.next() as u32;
-            if !live.contains(&article) {
-                live.push(article);
-                requests.push(Request::Insert(time, article, count));
-                records += 1;
-            }
-        }
-    }
-    requests
-}
 
 /// The times of the fastest runs of both, in nanoseconds.
 #[derive(Clone, Copy)]
@@ -92,7 +59,7 @@ fn best<A, B>(mut proved: impl FnMut() -> A, mut plain: impl FnMut() -> B) -> Fa
 
 fn main() {
     let mut random = Random::new(2055);
-    let requests = requests(&mut random);
+    let requests = requests(&mut random, ROW_LIMIT, MOST_RECORDS, None);
     let area = table_length(ROW_LIMIT);
     let lengths = Lengths {
         log: log_length(MOST_RECORDS),
@@ -128,6 +95,22 @@ fn main() {
     queries(&proved, &plain, &asked[..TABLES], "no file");
     keep_and_drop(&mut proved, &mut plain, &mut random);
     queries(&proved, &plain, &asked[..TABLES], "16 files");
+    colliding_tables(&mut proved, &mut plain, &mut random);
+}
+
+/// Tables of a log whose articles share one slot of the walk's hints.
+fn colliding_tables(proved: &mut Store, plain: &mut Plain, random: &mut Random) {
+    let requests = requests(random, ROW_LIMIT, MOST_RECORDS, Some(&colliding(2_000)));
+    append_proved(proved, &requests);
+    append_plain(plain, &requests);
+    let last = plain.numbers.last;
+    let asked: Vec<u64> = (0..TABLES).map(|_| random.from(0, last)).collect();
+    let [left, right] = &mut [0, 0].map(|fill| vec![fill; table_length(ROW_LIMIT)]);
+    let table = best(
+        || asked.iter().map(|&t| proved.table(t, left).unwrap().rows).sum::<u32>(),
+        || asked.iter().map(|&t| plain.table(t, right)).sum::<usize>(),
+    );
+    table.line("table, colliding", "µs", 1e3 * TABLES as f64);
 }
 
 /// Both stores have the same numbers and the same memory.

@@ -1,0 +1,85 @@
+//! Compares the tables of long walks, forwards and backwards, with those of the plain store: on articles of any number, and
+//! on articles that share one slot of the walk's hints, which then lead nowhere.
+
+use oracle::log::log_length;
+use oracle::plain::Plain;
+use oracle::proved::{Memory, Store};
+use oracle::random::Random;
+use oracle::requests::{colliding, requests, Request};
+use oracle::store::Lengths;
+use oracle::table::table_length;
+use oracle::tree::word_count;
+
+const ORDER: u16 = 8;
+const PAGE_SIZE: u16 = 16;
+const RECORDS: u32 = 6_000;
+const FILES: usize = 2;
+const TIMES: usize = 60;
+
+fn main() {
+    let mut random = Random::new(2055);
+    let mut tables = 0;
+    for row_limit in [1, 5, 40, 300, 1_024] {
+        let crowd = colliding(2_000);
+        for pool in [None, Some(&crowd[..]), Some(&crowd[..crowd.len().min(row_limit as usize + 3)])] {
+            tables += compare(&mut random, row_limit, pool);
+        }
+    }
+    println!("{tables} tables of long walks agree");
+}
+
+/// One log, its tables at random times with no count file and with some: how many were compared.
+fn compare(random: &mut Random, row_limit: u32, pool: Option<&[u32]>) -> usize {
+    let requests = requests(random, row_limit, RECORDS, pool);
+    let area = table_length(row_limit);
+    let lengths = Lengths {
+        log: log_length(RECORDS),
+        index: word_count(ORDER, PAGE_SIZE, RECORDS),
+        table: area,
+        catalogue: FILES,
+        areas: FILES * area,
+    };
+    let mut lent = oracle::store::Memory::filled(lengths, 0);
+    let mut proved = Store::over(Memory {
+        log: &mut lent.log,
+        index: &mut lent.index,
+        table: &mut lent.table,
+        entries: &mut lent.catalogue,
+        areas: &mut lent.areas,
+    });
+    let mut plain = Plain::fresh(ORDER, PAGE_SIZE, row_limit, lengths);
+    proved.fresh(ORDER, PAGE_SIZE, row_limit).unwrap();
+    for &request in &requests {
+        match request {
+            Request::Insert(time, article, count) => {
+                proved.insert(time, article, count).unwrap();
+                plain.insert(time, article, count).unwrap();
+            }
+            Request::Delete(time, article) => {
+                proved.delete(time, article).unwrap();
+                plain.delete(time, article).unwrap();
+            }
+            Request::Update(time, article, count) => {
+                proved.update(time, article, count).unwrap();
+                plain.update(time, article, count).unwrap();
+            }
+        }
+    }
+    let last = plain.numbers.last;
+    let [left, right] = &mut [1, 1].map(|fill| vec![fill; area]);
+    for k in 0..=FILES as u64 {
+        for _ in 0..TIMES {
+            let t = random.from(0, last);
+            let rows = proved.table(t, left).unwrap().rows as usize;
+            assert_eq!(rows, plain.table(t, right), "limit {row_limit}, time {t}");
+            assert!(left == right, "limit {row_limit}, time {t}");
+        }
+        if k < FILES as u64 {
+            let t = last * (k + 1) / (FILES as u64 + 1);
+            proved.keep(t).unwrap();
+            plain.keep(t).unwrap();
+        }
+    }
+    assert!(proved.memory.areas == plain.areas && proved.memory.entries == plain.entries);
+    TIMES * (FILES + 1)
+}
