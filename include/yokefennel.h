@@ -40,12 +40,12 @@
  * At 11        An append may need two nodes, an inner one and a leaf.
  * Threads      The calls hold no state. Any number of stores may be used from any number of threads, one
  *              call at a time for each store.
- * Stack        No call takes more than 16 kB of it; yk_keep and yk_audit hold a table of 8,192 bytes there.
- *              Nothing is allocated.
+ * Stack        No call takes more than 32 kB of it: yk_keep 27 kB, yk_table and yk_net_change 19 kB, yk_audit 10 kB,
+ *              the others 3 kB at most. Nothing is allocated.
  * Damage       Whatever numbers and lent memory hold, every call ends and touches nothing else, and a
  *              refusal changes nothing (but for yk_open at 17). yk_audit says whether it is all such as
  *              accepted calls leave; yk_open makes a store from any legal log.
- * Platform     The archive is for x86-64 Linux, and takes memcpy and memset from the C library.
+ * Platform     The archive is for x86-64 Linux, and takes memcpy, memmove and memset from the C library.
  * Handle       yk_store, further down, holds the numbers and the regions: yk_store_insert(&store, time,
  *              article, count) is yk_insert with them, and so on. */
 
