@@ -1,3 +1,4 @@
 pub mod Replay
+pub mod Step
 pub mod Promise
 pub mod Rebuild
