@@ -228,15 +228,14 @@ static inline yk_part yk_view_part(yk_view_answer view, const uint8_t *areas, co
     return part;
 }
 
-/* The version of this header. */
+/* The version of this header, and that of the archive as the one number that the header has as YK_VERSION_NUMBER. */
 #define YK_VERSION_MAJOR 0
 #define YK_VERSION_MINOR 1
 #define YK_VERSION_PATCH 0
 #define YK_VERSION "0.1.0"
+#define YK_VERSION_NUMBER (65536u * YK_VERSION_MAJOR + 256u * YK_VERSION_MINOR + YK_VERSION_PATCH)
 
-static inline const char *yk_version(void) {
-    return YK_VERSION;
-}
+uint32_t yk_version(void);
 
 /* A question answered no, in words. */
 static inline const char *yk_question_text(unsigned question) {

@@ -84,3 +84,9 @@ pub struct Entry {
     /// rows of its table
     pub rows: u32,
 }
+
+/// The version of the archive that is linked in: 65,536 × major + 256 × minor + patch.
+pub fn version() -> u32 {
+    // SAFETY: it is given nothing and touches no memory.
+    unsafe { raw::yk_version() }
+}

@@ -75,6 +75,9 @@ pub struct NetChangeAnswer {
 // one region to a line, its length beside it
 #[rustfmt::skip]
 extern "C" {
+    /// The version of the archive: 65,536 × major + 256 × minor + patch.
+    pub fn yk_version() -> u32;
+
     /// Starts an empty store.
     pub fn yk_fresh(
         order: u16, page: u16, limit: u32,

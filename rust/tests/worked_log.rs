@@ -226,3 +226,10 @@ fn stores_go_to_threads() {
         assert_eq!(asked.map(|thread| thread.join().unwrap()), [1, 2, 1]);
     });
 }
+
+#[test]
+fn archive_and_crate_have_one_version() {
+    let part = |text: &str| text.parse::<u32>().unwrap();
+    let (major, minor) = (part(env!("CARGO_PKG_VERSION_MAJOR")), part(env!("CARGO_PKG_VERSION_MINOR")));
+    assert_eq!(yokefennel::version(), 65_536 * major + 256 * minor + part(env!("CARGO_PKG_VERSION_PATCH")));
+}

@@ -118,7 +118,8 @@ static void words(void) {
     require(strcmp(yk_question_text(18), "no such question") == 0, "no question 18");
     char version[32];
     snprintf(version, sizeof version, "%d.%d.%d", YK_VERSION_MAJOR, YK_VERSION_MINOR, YK_VERSION_PATCH);
-    require(strcmp(version, yk_version()) == 0, "one version");
+    require(strcmp(version, YK_VERSION) == 0, "one version");
+    require(yk_version() == YK_VERSION_NUMBER, "and the archive's");
 }
 
 int main(void) {

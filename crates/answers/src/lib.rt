@@ -1,30 +1,39 @@
-// A refusal as 01's number, for programs and for callers in other languages.
+// A refusal as 01's numbers, for programs and for callers in other languages.
 ghost use mathlib.Core.Path.{_≡_};
-ghost use Rattle.model.specs.Answers.{Outcome, refusal};
-ghost use Rattle.answers.specs.Question.{questionOf};
+ghost use Rattle.answers.specs.Question.{numberOf, recordOf};
 use model::Refusal;
 
-// The number of the question that was answered no.
-pub fn question(why: Refusal) -> u8
-    ensures { λ r. ⌜ r ≡ questionOf {A = Unit} (refusal why) ⌝ }
+// The number of the question that was answered no, and the record number that comes with it, 0 if there is none.
+pub struct Numbered(pub u8, pub u32);
+
+// The numbers of a refusal.
+pub fn number(why: Refusal) -> Numbered
+    ensures { λ r. ⌜ (r .0 ≡ numberOf why) × (r .1 ≡ recordOf why) ⌝ }
 {
     match why {
-        Refusal::Header => 1,
-        Refusal::Order => 2,
-        Refusal::PageSize => 3,
-        Refusal::RowLimit => 4,
-        Refusal::Memory => 5,
-        Refusal::TimeNotAbove => 6,
-        Refusal::ArticlePresent => 7,
-        Refusal::ArticleAbsent => 8,
-        Refusal::RowsFull => 9,
-        Refusal::LogFull => 10,
-        Refusal::IndexFull => 11,
-        Refusal::TimeAfterLast => 12,
-        Refusal::OutputShort => 13,
-        Refusal::NotToKeep => 14,
-        Refusal::CatalogueFull => 15,
-        Refusal::NotKept => 16,
-        Refusal::WrongRecord(_) => 17,
+        Refusal::Header => Numbered(1, 0),
+        Refusal::Order => Numbered(2, 0),
+        Refusal::PageSize => Numbered(3, 0),
+        Refusal::RowLimit => Numbered(4, 0),
+        Refusal::Memory => Numbered(5, 0),
+        Refusal::TimeNotAbove => Numbered(6, 0),
+        Refusal::ArticlePresent => Numbered(7, 0),
+        Refusal::ArticleAbsent => Numbered(8, 0),
+        Refusal::RowsFull => Numbered(9, 0),
+        Refusal::LogFull => Numbered(10, 0),
+        Refusal::IndexFull => Numbered(11, 0),
+        Refusal::TimeAfterLast => Numbered(12, 0),
+        Refusal::OutputShort => Numbered(13, 0),
+        Refusal::NotToKeep => Numbered(14, 0),
+        Refusal::CatalogueFull => Numbered(15, 0),
+        Refusal::NotKept => Numbered(16, 0),
+        Refusal::WrongRecord(k) => Numbered(17, k.0),
     }
+}
+
+// The number of the question alone.
+pub fn question(why: Refusal) -> u8
+    ensures { λ r. ⌜ r ≡ numberOf why ⌝ }
+{
+    number(why).0
 }

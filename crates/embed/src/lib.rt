@@ -2,21 +2,30 @@
 // is a shell: it counts or loads the entries, makes the call of `numbered`, and clears or saves them.
 ghost use mathlib.Core.Path.{_≡_};
 ghost use mathlib.Core.List.{List};
-ghost use Prim.Native.Nat.{ℕ, _+_};
+ghost use Prim.Native.Nat.{ℕ, _+_, _*_};
 ghost use Rattle.model.specs.Starts.{freshOf, openOf};
 ghost use Rattle.model.specs.Changes.{insertOf, deleteOf, updateOf};
 ghost use Rattle.model.specs.Files.{keepOf, dropOf};
 ghost use Rattle.model.specs.Audit.{auditOf};
-ghost use Rattle.model.specs.Promises.{storeOf};
-ghost use Rattle.numbered.specs.Crossed.{memoryOf, StartCrossed, AppendCrossed, PositionCrossed, TableCrossed, ViewCrossed, NetChangeCrossed, FilesCrossed};
+ghost use Rattle.numbered.specs.Lent.{memoryOf, memoryLent};
+ghost use Rattle.numbered.specs.Crossed.{StartCrossed, AppendCrossed, PositionCrossed, TableCrossed, ViewCrossed, NetChangeCrossed, FilesCrossed};
 ghost use Rattle.numbered.specs.Answers.{yesOut};
+ghost use Rattle.embed.specs.Regions.{asLent, asLeft};
 use model::Entry;
 use model::Numbers;
-use numbered::YkChange;
-use numbered::YkNetChange;
-use numbered::YkPosition;
-use numbered::YkTable;
-use numbered::YkView;
+use numbered::answer::YkChange;
+use numbered::answer::YkNetChange;
+use numbered::answer::YkPosition;
+use numbered::answer::YkTable;
+use numbered::outset::YkView;
+
+// The version of the archive: that of the header and of the Rust crate, as one number.
+#[no_mangle]
+pub extern "C" fn yk_version() -> u32
+    ensures { λ r. ⌜ r ≡ 0 * 65536 + 1 * 256 + 0 ⌝ }
+{
+    256
+}
 
 #[no_mangle]
 pub extern "C" fn yk_fresh(
@@ -28,13 +37,14 @@ pub extern "C" fn yk_fresh(
     entries: &mut [Entry],
     areas: &[u8],
 ) -> YkChange
-    ensures { λ r. ⌜ ((index : List ℕ) → StartCrossed r (memoryOf (now (log .exit)) index (now (current .exit)) (now (entries .exit)) (now (areas .entry)))
+    ensures { λ r. ⌜ ((index : List ℕ)
+        → StartCrossed r (memoryOf (now (log .exit)) index (now (current .exit)) (now (entries .exit)) (now (areas .exit)))
         (freshOf order page limit (memoryOf (now (log .entry)) index (now (current .entry)) (now (entries .entry)) (now (areas .entry))))) ⌝ }
 {
     let n = entries::count(entries);
     let r = numbered::fresh(order, page, limit, log, current, n, areas.len());
     entries::clear(entries, r.clears);
-    numbered::begun_change(r)
+    numbered::answer::begun_change(r)
 }
 
 #[no_mangle]
@@ -45,13 +55,13 @@ pub extern "C" fn yk_open(
     entries: &mut [Entry],
     areas: &[u8],
 ) -> YkChange
-    ensures { λ r. ⌜ StartCrossed r (memoryOf (now (log .entry)) (now (index .exit)) (now (current .exit)) (now (entries .exit)) (now (areas .entry)))
-        (openOf (memoryOf (now (log .entry)) (now (index .entry)) (now (current .entry)) (now (entries .entry)) (now (areas .entry)))) ⌝ }
+    ensures { λ r. ⌜ StartCrossed r (asLeft log index current entries areas)
+        (openOf (memoryLent log index current (now (entries .entry)) (now (areas .entry)))) ⌝ }
 {
     let n = entries::count(entries);
     let r = numbered::open(log, index, current, n, areas.len());
     entries::clear(entries, r.clears);
-    numbered::begun_change(r)
+    numbered::answer::begun_change(r)
 }
 
 #[no_mangle]
@@ -66,9 +76,8 @@ pub extern "C" fn yk_insert(
     article: u32,
     count: u32,
 ) -> YkChange
-    ensures { λ r. ⌜ AppendCrossed 1 r (storeOf s (now (log .entry)) (now (index .entry)) (now (current .entry)) (now (entries .entry)) (now (areas .entry)))
-        (memoryOf (now (log .exit)) (now (index .exit)) (now (current .exit)) (now (entries .entry)) (now (areas .entry)))
-        (insertOf (storeOf s (now (log .entry)) (now (index .entry)) (now (current .entry)) (now (entries .entry)) (now (areas .entry))) t article count) ⌝ }
+    ensures { λ r. ⌜ AppendCrossed 1 r (asLent s log index current entries areas) (asLeft log index current entries areas)
+        (insertOf (asLent s log index current entries areas) t article count) ⌝ }
 {
     numbered::insert(
         s,
@@ -94,9 +103,8 @@ pub extern "C" fn yk_delete(
     t: u64,
     article: u32,
 ) -> YkChange
-    ensures { λ r. ⌜ AppendCrossed 1 r (storeOf s (now (log .entry)) (now (index .entry)) (now (current .entry)) (now (entries .entry)) (now (areas .entry)))
-        (memoryOf (now (log .exit)) (now (index .exit)) (now (current .exit)) (now (entries .entry)) (now (areas .entry)))
-        (deleteOf (storeOf s (now (log .entry)) (now (index .entry)) (now (current .entry)) (now (entries .entry)) (now (areas .entry))) t article) ⌝ }
+    ensures { λ r. ⌜ AppendCrossed 1 r (asLent s log index current entries areas) (asLeft log index current entries areas)
+        (deleteOf (asLent s log index current entries areas) t article) ⌝ }
 {
     numbered::delete(
         s,
@@ -122,9 +130,8 @@ pub extern "C" fn yk_update(
     article: u32,
     count: u32,
 ) -> YkChange
-    ensures { λ r. ⌜ AppendCrossed 2 r (storeOf s (now (log .entry)) (now (index .entry)) (now (current .entry)) (now (entries .entry)) (now (areas .entry)))
-        (memoryOf (now (log .exit)) (now (index .exit)) (now (current .exit)) (now (entries .entry)) (now (areas .entry)))
-        (updateOf (storeOf s (now (log .entry)) (now (index .entry)) (now (current .entry)) (now (entries .entry)) (now (areas .entry))) t article count) ⌝ }
+    ensures { λ r. ⌜ AppendCrossed 2 r (asLent s log index current entries areas) (asLeft log index current entries areas)
+        (updateOf (asLent s log index current entries areas) t article count) ⌝ }
 {
     numbered::update(
         s,
@@ -149,7 +156,7 @@ pub extern "C" fn yk_position(
     areas: &[u8],
     t: u64,
 ) -> YkPosition
-    ensures { λ r. ⌜ PositionCrossed r (storeOf s (now (log .entry)) (now (index .entry)) (now (current .entry)) (now (entries .entry)) (now (areas .entry))) t ⌝ }
+    ensures { λ r. ⌜ PositionCrossed r (asLent s log index current entries areas) t ⌝ }
 {
     let n = entries::count(entries);
     numbered::position(s, log, index, current, n, areas.len(), t)
@@ -166,7 +173,8 @@ pub extern "C" fn yk_table<'a>(
     t: u64,
     out: &mut [u8],
 ) -> YkTable
-    ensures { λ r. ⌜ TableCrossed r (storeOf s (now (log .entry)) (now (index .entry)) (now (current .entry)) (now (entries .entry)) (now (areas .entry))) t (now (out .entry)) (now (out .exit)) ⌝ }
+    ensures { λ r. ⌜ TableCrossed r (asLent s log index current entries areas) t
+        (now (out .entry)) (now (out .exit)) ⌝ }
 {
     numbered::table(
         s,
@@ -190,7 +198,7 @@ pub extern "C" fn yk_view(
     areas: &[u8],
     t: u64,
 ) -> YkView
-    ensures { λ r. ⌜ ViewCrossed r (storeOf s (now (log .entry)) (now (index .entry)) (now (current .entry)) (now (entries .entry)) (now (areas .entry))) t ⌝ }
+    ensures { λ r. ⌜ ViewCrossed r (asLent s log index current entries areas) t ⌝ }
 {
     numbered::view(s, log, index, current, entries::load(entries), areas, t)
 }
@@ -208,7 +216,7 @@ pub extern "C" fn yk_net_change<'a>(
     out: &mut [u8],
     work: &mut [u8],
 ) -> YkNetChange
-    ensures { λ r. ⌜ NetChangeCrossed r (storeOf s (now (log .entry)) (now (index .entry)) (now (current .entry)) (now (entries .entry)) (now (areas .entry))) a b
+    ensures { λ r. ⌜ NetChangeCrossed r (asLent s log index current entries areas) a b
         (now (out .entry)) (now (work .entry)) (now (out .exit)) (now (work .exit)) ⌝ }
 {
     numbered::net_change(
@@ -235,14 +243,13 @@ pub extern "C" fn yk_keep(
     areas: &mut [u8],
     t: u64,
 ) -> YkChange
-    ensures { λ r. ⌜ FilesCrossed (s .files + 1) r (storeOf s (now (log .entry)) (now (index .entry)) (now (current .entry)) (now (entries .entry)) (now (areas .entry)))
-        (memoryOf (now (log .entry)) (now (index .entry)) (now (current .entry)) (now (entries .exit)) (now (areas .exit)))
-        (keepOf (storeOf s (now (log .entry)) (now (index .entry)) (now (current .entry)) (now (entries .entry)) (now (areas .entry))) t) ⌝ }
+    ensures { λ r. ⌜ FilesCrossed (s .files + 1) r (asLent s log index current entries areas) (asLeft log index current entries areas)
+        (keepOf (asLent s log index current entries areas) t) ⌝ }
 {
     let c = entries::load(entries);
     let r = numbered::keep(s, log, index, current, c, areas, t);
     entries::save(entries, r.catalogue);
-    numbered::refiled_change(r)
+    numbered::answer::refiled_change(r)
 }
 
 #[no_mangle]
@@ -255,14 +262,13 @@ pub extern "C" fn yk_drop(
     areas: &mut [u8],
     t: u64,
 ) -> YkChange
-    ensures { λ r. ⌜ FilesCrossed (s .files) r (storeOf s (now (log .entry)) (now (index .entry)) (now (current .entry)) (now (entries .entry)) (now (areas .entry)))
-        (memoryOf (now (log .entry)) (now (index .entry)) (now (current .entry)) (now (entries .exit)) (now (areas .exit)))
-        (dropOf (storeOf s (now (log .entry)) (now (index .entry)) (now (current .entry)) (now (entries .entry)) (now (areas .entry))) t) ⌝ }
+    ensures { λ r. ⌜ FilesCrossed (s .files) r (asLent s log index current entries areas) (asLeft log index current entries areas)
+        (dropOf (asLent s log index current entries areas) t) ⌝ }
 {
     let c = entries::load(entries);
     let r = numbered::drop(s, log, index, current, c, areas, t);
     entries::save(entries, r.catalogue);
-    numbered::refiled_change(r)
+    numbered::answer::refiled_change(r)
 }
 
 #[no_mangle]
@@ -274,7 +280,7 @@ pub extern "C" fn yk_audit(
     entries: &[Entry],
     areas: &[u8],
 ) -> u8
-    ensures { λ r. ⌜ r ≡ yesOut (auditOf (storeOf s (now (log .entry)) (now (index .entry)) (now (current .entry)) (now (entries .entry)) (now (areas .entry)))) ⌝ }
+    ensures { λ r. ⌜ r ≡ yesOut (auditOf (asLent s log index current entries areas)) ⌝ }
 {
     numbered::audit(s, log, index, current, entries::load(entries), areas)
 }

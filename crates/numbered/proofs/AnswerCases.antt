@@ -13,13 +13,13 @@ use Rattle.model.specs.declared.TableAnswer.the-variants as table
 use Rattle.model.specs.declared.ViewAnswer.the-variants as view
 use Rattle.model.specs.declared.NetChangeAnswer.the-variants as net
 use Rattle.model.specs.Answers.{refusal}
-use Rattle.answers.specs.Question.{questionOf}
-use Rattle.numbered.specs.declared.YkChange.{YkChange}
-use Rattle.numbered.specs.declared.YkPosition.{YkPosition}
-use Rattle.numbered.specs.declared.YkTable.{YkTable}
-use Rattle.numbered.specs.declared.YkView.{YkView}
-use Rattle.numbered.specs.declared.YkNetChange.{YkNetChange}
-use Rattle.numbered.specs.Answers.{numberOf, recordIn, recordOf, changeOut, positionOut, laterOf, tableOut, placeOut, areaOut, spanOf, viewOut, netChangeOut}
+use Rattle.answers.specs.Question.{questionOf, recordIn, numberOf}
+use Rattle.numbered.specs.declared.answer.YkChange.{YkChange}
+use Rattle.numbered.specs.declared.answer.YkPosition.{YkPosition}
+use Rattle.numbered.specs.declared.answer.YkTable.{YkTable}
+use Rattle.numbered.specs.declared.outset.YkView.{YkView}
+use Rattle.numbered.specs.declared.answer.YkNetChange.{YkNetChange}
+use Rattle.numbered.specs.Answers.{changeOut, positionOut, laterOf, tableOut, placeOut, areaOut, spanOf, viewOut, netChangeOut}
 
 -- every refusal's number, as 01 numbers its questions
 abbrev refusals : List Refusal

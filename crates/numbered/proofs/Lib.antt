@@ -1,4 +1,3 @@
 pub mod Lengths
-pub mod Crossings
 pub mod Spans
 pub mod AnswerCases

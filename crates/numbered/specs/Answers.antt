@@ -3,7 +3,6 @@
 use Prim.Native.Nat.{ℕ, _-_, _*_, min}
 use mathlib.Core.Bool.{Bool, cond}
 use Rattle.model.specs.declared.Numbers.{Numbers}
-use Rattle.model.specs.declared.Refusal.{Refusal}
 use Rattle.model.specs.declared.Verdict.{Verdict}
 use Rattle.model.specs.declared.Verdict.the-variants as verdict
 use Rattle.model.specs.declared.PositionAnswer.{PositionAnswer}
@@ -18,27 +17,13 @@ use Rattle.model.specs.declared.ViewAnswer.{ViewAnswer}
 use Rattle.model.specs.declared.ViewAnswer.the-variants as view
 use Rattle.model.specs.declared.NetChangeAnswer.{NetChangeAnswer}
 use Rattle.model.specs.declared.NetChangeAnswer.the-variants as net
-use Rattle.model.specs.Answers.{Outcome, answers, refuses, refusesAt, refusal}
-use Rattle.answers.specs.Question.{questionOf}
-use Rattle.numbered.specs.declared.YkChange.{YkChange}
-use Rattle.numbered.specs.declared.YkPosition.{YkPosition}
-use Rattle.numbered.specs.declared.YkTable.{YkTable}
-use Rattle.numbered.specs.declared.YkView.{YkView}
-use Rattle.numbered.specs.declared.YkNetChange.{YkNetChange}
-use Rattle.numbered.specs.declared.Span.{Span}
-
--- the number of the question answered no
-abbrev pub numberOf : Refusal → ℕ
-numberOf why = questionOf {A = Unit} (refusal why)
-
--- the record number that comes with it, 0 if there is none
-unfoldable pub recordIn : {A : Type 0} → Outcome A → ℕ
-recordIn (answers x) = 0
-recordIn (refuses k) = 0
-recordIn (refusesAt k r) = r
-
-abbrev pub recordOf : Refusal → ℕ
-recordOf why = recordIn {A = Unit} (refusal why)
+use Rattle.answers.specs.Question.{numberOf, recordOf}
+use Rattle.numbered.specs.declared.answer.YkChange.{YkChange}
+use Rattle.numbered.specs.declared.answer.YkPosition.{YkPosition}
+use Rattle.numbered.specs.declared.answer.YkTable.{YkTable}
+use Rattle.numbered.specs.declared.outset.YkView.{YkView}
+use Rattle.numbered.specs.declared.answer.YkNetChange.{YkNetChange}
+use Rattle.numbered.specs.declared.outset.Span.{Span}
 
 unfoldable pub changeOut : Numbers → Verdict → YkChange
 changeOut s verdict.Accepted = record { numbers = s; question = 0; «record» = 0 }

@@ -8,41 +8,40 @@ use lib.ListN.{length}
 use lib.Dec.{eqb}
 use Rattle.codec.specs.Parts.{part}
 use Rattle.model.specs.declared.Numbers.{Numbers}
-use Rattle.model.specs.declared.Entry.{Entry}
 use Rattle.model.specs.declared.Verdict.{Verdict}
 use Rattle.model.specs.declared.PositionAnswer.{PositionAnswer}
 use Rattle.model.specs.declared.TableAnswer.{TableAnswer}
 use Rattle.model.specs.declared.ViewAnswer.{ViewAnswer}
 use Rattle.model.specs.declared.NetChangeAnswer.{NetChangeAnswer}
-use Rattle.model.specs.Answers.{verdictOutcome, positionOutcome, tableOutcome, viewOutcome, netChangeOutcome}
+use Rattle.model.specs.Answers.{Outcome, verdictOutcome, positionOutcome, tableOutcome, viewOutcome, netChangeOutcome}
 use Rattle.model.specs.Memory.{Memory, State, state}
 use Rattle.model.specs.Starts.{After, after}
 use Rattle.model.specs.Promises.{AppendPromise, FilesPromise, PositionPromise, TablePromise, ViewPromise, NetChangePromise}
-use Rattle.numbered.specs.declared.YkChange.{YkChange}
-use Rattle.numbered.specs.declared.YkPosition.{YkPosition}
-use Rattle.numbered.specs.declared.YkTable.{YkTable}
-use Rattle.numbered.specs.declared.YkView.{YkView}
-use Rattle.numbered.specs.declared.YkNetChange.{YkNetChange}
+use Rattle.numbered.specs.declared.answer.YkChange.{YkChange}
+use Rattle.numbered.specs.declared.answer.YkPosition.{YkPosition}
+use Rattle.numbered.specs.declared.answer.YkTable.{YkTable}
+use Rattle.numbered.specs.declared.outset.YkView.{YkView}
+use Rattle.numbered.specs.declared.answer.YkNetChange.{YkNetChange}
 use Rattle.numbered.specs.Answers.{changeOut, positionOut, tableOut, viewOut, netChangeOut}
 
--- the memory of these lent regions
-abbrev pub memoryOf : (log index table : List ℕ) → List Entry → List ℕ → Memory
-memoryOf log index table catalogue areas =
-    record { log = log; index = index; table = table; catalogue = catalogue; areas = areas }
+-- a call that may change the store; Kept is what its promise says of the outcome and of the store then
+pub record ChangeCrossed (Kept : Outcome Unit → State → Type 0) (r : YkChange) (memory' : Memory) : Type 0 where
+  pub numbers : Numbers
+  pub verdict : Verdict
+  pub is : r ≡ changeOut numbers verdict
+  pub kept : Kept (verdictOutcome verdict) (state numbers memory')
 
 -- fresh store and opening: exactly what 01 says, on any memory
-pub record StartCrossed (r : YkChange) (memory' : Memory) (defined : After) : Type 0 where
-  pub numbers : Numbers
-  pub verdict : Verdict
-  pub is : r ≡ changeOut numbers verdict
-  pub kept : after (verdictOutcome verdict) (state numbers memory') ≡ defined
+abbrev pub StartCrossed : YkChange → Memory → After → Type 0
+StartCrossed r memory' defined = ChangeCrossed (λ o st'. after o st' ≡ defined) r memory'
 
 -- insert, delete and update
-pub record AppendCrossed (more : ℕ) (r : YkChange) (st : State) (memory' : Memory) (defined : After) : Type 0 where
-  pub numbers : Numbers
-  pub verdict : Verdict
-  pub is : r ≡ changeOut numbers verdict
-  pub kept : AppendPromise more st (verdictOutcome verdict) (state numbers memory') defined
+abbrev pub AppendCrossed : ℕ → YkChange → State → Memory → After → Type 0
+AppendCrossed more r st memory' defined = ChangeCrossed (λ o st'. AppendPromise more st o st' defined) r memory'
+
+-- keep and drop
+abbrev pub FilesCrossed : ℕ → YkChange → State → Memory → After → Type 0
+FilesCrossed files r st memory' defined = ChangeCrossed (λ o st'. FilesPromise files st o st' defined) r memory'
 
 pub record PositionCrossed (r : YkPosition) (st : State) (t : ℕ) : Type 0 where
   pub answer : PositionAnswer
@@ -68,10 +67,3 @@ pub record NetChangeCrossed (r : YkNetChange) (st : State) (a b : ℕ) (out work
   pub answer : NetChangeAnswer
   pub is : r ≡ netChangeOut answer
   pub kept : NetChangePromise st a b out work (netChangeOutcome answer) out' work'
-
--- keep and drop
-pub record FilesCrossed (files : ℕ) (r : YkChange) (st : State) (memory' : Memory) (defined : After) : Type 0 where
-  pub numbers : Numbers
-  pub verdict : Verdict
-  pub is : r ≡ changeOut numbers verdict
-  pub kept : FilesPromise files st (verdictOutcome verdict) (state numbers memory') defined

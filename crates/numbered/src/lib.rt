@@ -2,205 +2,29 @@
 // as its length; `embed` lends it as a slice of entries.
 ghost use mathlib.Core.Path.{_≡_};
 ghost use mathlib.Core.List.{List};
-ghost use Prim.Native.Nat.{ℕ, _+_, _≤_, min};
-ghost use lib.ListN.{length, replicate};
-ghost use Rattle.codec.specs.Parts.{put};
+ghost use Prim.Native.Nat.{ℕ, _+_, _≤_};
+ghost use lib.ListN.{length};
 ghost use Rattle.model.specs.declared.Entry.{Entry};
-ghost use Rattle.model.specs.Memory.{noEntry};
 ghost use Rattle.model.specs.Starts.{freshOf, openOf};
 ghost use Rattle.model.specs.Changes.{insertOf, deleteOf, updateOf};
 ghost use Rattle.model.specs.Files.{keepOf, dropOf};
 ghost use Rattle.model.specs.Audit.{auditOf};
-ghost use Rattle.model.specs.Promises.{storeOf};
 ghost use Rattle.catalogue.specs.Files.{byValue, writtenBack};
-ghost use Rattle.numbered.specs.Answers.{recordOf, changeOut, positionOut, laterOf, tableOut, placeOut, areaOut, spanOf, viewOut, netChangeOut, yesOut};
-ghost use Rattle.numbered.specs.Crossed.{memoryOf, StartCrossed, AppendCrossed, PositionCrossed, TableCrossed, ViewCrossed, NetChangeCrossed, FilesCrossed};
-use answers::question;
+ghost use Rattle.numbered.specs.Answers.{yesOut};
+ghost use Rattle.numbered.specs.Lent.{memoryOf, cleared, memoryLent, memoryLeft, storeLent};
+ghost use Rattle.numbered.specs.Crossed.{StartCrossed, AppendCrossed, PositionCrossed, TableCrossed, ViewCrossed, NetChangeCrossed, FilesCrossed};
+use answer::Begun;
+use answer::Refiled;
+use answer::YkChange;
+use answer::YkNetChange;
+use answer::YkPosition;
+use answer::YkTable;
 use catalogue::Catalogue;
-use filing::Filed;
-use model::NetChangeAnswer;
 use model::Numbers;
-use model::Place;
-use model::PositionAnswer;
-use model::Refusal;
-use model::Side;
-use model::TableAnswer;
-use model::Verdict;
-use model::ViewAnswer;
-use opening::Started;
+use outset::YkView;
 
-// The answer of a call that may change the store: the numbers then, the question answered no, or 0, and at 17 the record
-// number.
-#[repr(C)]
-pub struct YkChange {
-    pub numbers: Numbers,
-    pub question: u8,
-    pub record: u32,
-}
-
-#[repr(C)]
-pub struct YkPosition {
-    pub question: u8,
-    pub page: u32,
-}
-
-// The answer of a table; `later` is 1 where the outset used lies at or after the time, else 0.
-#[repr(C)]
-pub struct YkTable {
-    pub question: u8,
-    pub rows: u32,
-    pub later: u8,
-    pub distance: u32,
-}
-
-// The answer of a view: the outset's place (0 empty, 1 an area, 2 the current table), the number of its area, its rows, side
-// and distance; and the part that its rows are, in bytes of the areas or of the current table.
-#[repr(C)]
-pub struct YkView {
-    pub question: u8,
-    pub place: u8,
-    pub area: u32,
-    pub rows: u32,
-    pub later: u8,
-    pub distance: u32,
-    pub start: usize,
-    pub length: usize,
-}
-
-#[repr(C)]
-pub struct YkNetChange {
-    pub question: u8,
-    pub entries: u32,
-}
-
-// What a start answers, and how many entries of the catalogue are to be cleared.
-pub struct Begun {
-    pub change: YkChange,
-    pub clears: usize,
-}
-
-// What keep or drop answers, and the catalogue to be written back.
-pub struct Refiled {
-    pub change: YkChange,
-    pub catalogue: Catalogue,
-}
-
-// A part of a region: its first byte and its length.
-pub struct Span {
-    pub start: usize,
-    pub length: usize,
-}
-
-// ---- answers
-
-// The record number of a refusal by 17, 0 of any other.
-fn record_of(why: Refusal) -> u32
-    ensures { λ r. ⌜ r ≡ recordOf why ⌝ }
-{
-    match why {
-        Refusal::Header => 0,
-        Refusal::Order => 0,
-        Refusal::PageSize => 0,
-        Refusal::RowLimit => 0,
-        Refusal::Memory => 0,
-        Refusal::TimeNotAbove => 0,
-        Refusal::ArticlePresent => 0,
-        Refusal::ArticleAbsent => 0,
-        Refusal::RowsFull => 0,
-        Refusal::LogFull => 0,
-        Refusal::IndexFull => 0,
-        Refusal::TimeAfterLast => 0,
-        Refusal::OutputShort => 0,
-        Refusal::NotToKeep => 0,
-        Refusal::CatalogueFull => 0,
-        Refusal::NotKept => 0,
-        Refusal::WrongRecord(k) => k.0,
-    }
-}
-
-fn change_out(numbers: Numbers, verdict: Verdict) -> YkChange
-    ensures { λ r. ⌜ r ≡ changeOut numbers verdict ⌝ }
-{
-    match verdict {
-        Verdict::Accepted => YkChange {
-            numbers,
-            question: 0,
-            record: 0,
-        },
-        Verdict::Refused(why) => YkChange {
-            numbers,
-            question: question(why),
-            record: record_of(why),
-        },
-    }
-}
-
-fn position_out(answer: PositionAnswer) -> YkPosition
-    ensures { λ r. ⌜ r ≡ positionOut answer ⌝ }
-{
-    match answer {
-        PositionAnswer::At(p) => YkPosition {
-            question: 0,
-            page: p.page.0,
-        },
-        PositionAnswer::Refused(why) => YkPosition {
-            question: question(why),
-            page: 0,
-        },
-    }
-}
-
-fn later_of(side: Side) -> u8
-    ensures { λ r. ⌜ r ≡ laterOf side ⌝ }
-{
-    match side {
-        Side::Earlier => 0,
-        Side::Later => 1,
-    }
-}
-
-fn table_out(answer: TableAnswer) -> YkTable
-    ensures { λ r. ⌜ r ≡ tableOut answer ⌝ }
-{
-    match answer {
-        TableAnswer::Table {
-            rows,
-            side,
-            distance,
-        } => YkTable {
-            question: 0,
-            rows,
-            later: later_of(side),
-            distance,
-        },
-        TableAnswer::Refused(why) => YkTable {
-            question: question(why),
-            rows: 0,
-            later: 0,
-            distance: 0,
-        },
-    }
-}
-
-// ---- the calls
-
-// What a start answered, in numbers.
-fn begin(x: Started) -> Begun
-    ensures { λ r. ⌜ (r .change ≡ changeOut (x .numbers) (x .verdict)) × (r .clears ≡ x .clears) ⌝ }
-{
-    let verdict = x.verdict;
-    Begun {
-        change: change_out(x.numbers, verdict),
-        clears: x.clears,
-    }
-}
-
-pub fn begun_change(r: Begun) -> YkChange
-    ensures { λ x. ⌜ x ≡ r .change ⌝ }
-{
-    let change = r.change;
-    change
-}
+pub mod answer; // answer.rt: the answers in numbers
+pub mod outset; // outset.rt: that of a view
 
 pub fn fresh(
     order: u16,
@@ -213,10 +37,10 @@ pub fn fresh(
 ) -> Begun
     ensures few { λ r. ⌜ r .clears ≤ entries ⌝ }
     ensures kept { λ r. ⌜ ((index area : List ℕ) (catalogue : List Entry) → length catalogue ≡ entries → length area ≡ areas
-        → StartCrossed (r .change) (memoryOf (now (log .exit)) index (now (current .exit)) (put catalogue 0 (replicate (r .clears) noEntry)) area)
+        → StartCrossed (r .change) (memoryOf (now (log .exit)) index (now (current .exit)) (cleared (r .clears) catalogue) area)
         (freshOf order page limit (memoryOf (now (log .entry)) index (now (current .entry)) catalogue area))) ⌝ }
 {
-    begin(opening::fresh(order, page, limit, log, current, entries, areas))
+    answer::begin(opening::fresh(order, page, limit, log, current, entries, areas))
 }
 
 pub fn open(
@@ -228,10 +52,10 @@ pub fn open(
 ) -> Begun
     ensures few { λ r. ⌜ r .clears ≤ entries ⌝ }
     ensures kept { λ r. ⌜ ((area : List ℕ) (catalogue : List Entry) → length catalogue ≡ entries → length area ≡ areas
-        → StartCrossed (r .change) (memoryOf (now (log .entry)) (now (index .exit)) (now (current .exit)) (put catalogue 0 (replicate (r .clears) noEntry)) area)
-        (openOf (memoryOf (now (log .entry)) (now (index .entry)) (now (current .entry)) catalogue area))) ⌝ }
+        → StartCrossed (r .change) (memoryLeft log index current (cleared (r .clears) catalogue) area)
+        (openOf (memoryLent log index current catalogue area))) ⌝ }
 {
-    begin(opening::open(log, index, current, entries, areas))
+    answer::begin(opening::open(log, index, current, entries, areas))
 }
 
 pub fn insert(
@@ -246,13 +70,11 @@ pub fn insert(
     count: u32,
 ) -> YkChange
     ensures { λ r. ⌜ ((catalogue : List Entry) (area : List ℕ) → length catalogue ≡ entries → length area ≡ areas
-        → AppendCrossed 1 r (storeOf s (now (log .entry)) (now (index .entry)) (now (current .entry)) catalogue area)
-        (memoryOf (now (log .exit)) (now (index .exit)) (now (current .exit)) catalogue area)
-        (insertOf (storeOf s (now (log .entry)) (now (index .entry)) (now (current .entry)) catalogue area) t article count)) ⌝ }
+        → AppendCrossed 1 r (storeLent s log index current catalogue area)
+        (memoryLeft log index current catalogue area)
+        (insertOf (storeLent s log index current catalogue area) t article count)) ⌝ }
 {
-    let r = appending::insert(s, log, index, current, entries, areas, t, article, count);
-    let verdict = r.verdict;
-    change_out(r.numbers, verdict)
+    answer::append_out(appending::insert(s, log, index, current, entries, areas, t, article, count))
 }
 
 pub fn delete(
@@ -266,13 +88,11 @@ pub fn delete(
     article: u32,
 ) -> YkChange
     ensures { λ r. ⌜ ((catalogue : List Entry) (area : List ℕ) → length catalogue ≡ entries → length area ≡ areas
-        → AppendCrossed 1 r (storeOf s (now (log .entry)) (now (index .entry)) (now (current .entry)) catalogue area)
-        (memoryOf (now (log .exit)) (now (index .exit)) (now (current .exit)) catalogue area)
-        (deleteOf (storeOf s (now (log .entry)) (now (index .entry)) (now (current .entry)) catalogue area) t article)) ⌝ }
+        → AppendCrossed 1 r (storeLent s log index current catalogue area)
+        (memoryLeft log index current catalogue area)
+        (deleteOf (storeLent s log index current catalogue area) t article)) ⌝ }
 {
-    let r = appending::delete(s, log, index, current, entries, areas, t, article);
-    let verdict = r.verdict;
-    change_out(r.numbers, verdict)
+    answer::append_out(appending::delete(s, log, index, current, entries, areas, t, article))
 }
 
 pub fn update(
@@ -287,13 +107,11 @@ pub fn update(
     count: u32,
 ) -> YkChange
     ensures { λ r. ⌜ ((catalogue : List Entry) (area : List ℕ) → length catalogue ≡ entries → length area ≡ areas
-        → AppendCrossed 2 r (storeOf s (now (log .entry)) (now (index .entry)) (now (current .entry)) catalogue area)
-        (memoryOf (now (log .exit)) (now (index .exit)) (now (current .exit)) catalogue area)
-        (updateOf (storeOf s (now (log .entry)) (now (index .entry)) (now (current .entry)) catalogue area) t article count)) ⌝ }
+        → AppendCrossed 2 r (storeLent s log index current catalogue area)
+        (memoryLeft log index current catalogue area)
+        (updateOf (storeLent s log index current catalogue area) t article count)) ⌝ }
 {
-    let r = appending::update(s, log, index, current, entries, areas, t, article, count);
-    let verdict = r.verdict;
-    change_out(r.numbers, verdict)
+    answer::append_out(appending::update(s, log, index, current, entries, areas, t, article, count))
 }
 
 pub fn position(
@@ -306,9 +124,9 @@ pub fn position(
     t: u64,
 ) -> YkPosition
     ensures { λ r. ⌜ ((catalogue : List Entry) (area : List ℕ) → length catalogue ≡ entries → length area ≡ areas
-        → PositionCrossed r (storeOf s (now (log .entry)) (now (index .entry)) (now (current .entry)) catalogue area) t) ⌝ }
+        → PositionCrossed r (storeLent s log index current catalogue area) t) ⌝ }
 {
-    position_out(tables::position(s, log, index, current, entries, areas, t))
+    answer::position_out(tables::position(s, log, index, current, entries, areas, t))
 }
 
 pub fn table<'a>(
@@ -322,100 +140,10 @@ pub fn table<'a>(
     out: &mut [u8],
 ) -> YkTable
     ensures { λ r. ⌜ ((catalogue : List Entry) → c ≡ byValue catalogue
-        → TableCrossed r (storeOf s (now (log .entry)) (now (index .entry)) (now (current .entry)) catalogue (now (areas .entry))) t
+        → TableCrossed r (storeLent s log index current catalogue (now (areas .entry))) t
         (now (out .entry)) (now (out .exit))) ⌝ }
 {
-    table_out(tables::table(s, log, index, current, c, areas, t, out))
-}
-
-// ---- the view
-
-fn place_out(place: Place) -> u8
-    ensures { λ r. ⌜ r ≡ placeOut place ⌝ }
-{
-    match place {
-        Place::Empty => 0,
-        Place::Area(_) => 1,
-        Place::Current => 2,
-    }
-}
-
-fn area_out(place: Place) -> u32
-    ensures { λ r. ⌜ r ≡ areaOut place ⌝ }
-{
-    match place {
-        Place::Empty => 0,
-        Place::Area(i) => i,
-        Place::Current => 0,
-    }
-}
-
-fn least(a: usize, b: usize) -> usize
-    ensures { λ r. ⌜ r ≡ min a b ⌝ }
-{
-    if a < b {
-        return a;
-    }
-    b
-}
-
-// The part that the rows of a held table are, cut where the bytes lent end.
-fn span_of(limit: u32, areas: usize, current: usize, place: Place, rows: u32) -> Span
-    ensures { λ r. ⌜ r ≡ spanOf limit areas current place rows ⌝ }
-{
-    let size = 8 * (rows as usize);
-    match place {
-        Place::Empty => Span {
-            start: 0,
-            length: 0,
-        },
-        Place::Area(i) => {
-            let start = tables::area_start(limit, i, areas);
-            Span {
-                start,
-                length: least(size, areas - start),
-            }
-        }
-        Place::Current => Span {
-            start: 0,
-            length: least(size, current),
-        },
-    }
-}
-
-fn view_out(limit: u32, areas: usize, current: usize, answer: ViewAnswer) -> YkView
-    ensures { λ r. ⌜ r ≡ viewOut limit areas current answer ⌝ }
-{
-    match answer {
-        ViewAnswer::Outset {
-            place,
-            rows,
-            side,
-            distance,
-        } => {
-            let span = span_of(limit, areas, current, place, rows);
-            YkView {
-                question: 0,
-                place: place_out(place),
-                area: area_out(place),
-                rows,
-                later: later_of(side),
-                distance,
-                start: span.start,
-                length: span.length,
-            }
-        }
-        ViewAnswer::Refused(why) => YkView {
-            question: question(why),
-            place: 0,
-            area: 0,
-            rows: 0,
-            later: 0,
-            distance: 0,
-            start: 0,
-            length: 0,
-        },
-    }
+    answer::table_out(tables::table(s, log, index, current, c, areas, t, out))
 }
 
 pub fn view(
@@ -428,27 +156,10 @@ pub fn view(
     t: u64,
 ) -> YkView
     ensures { λ r. ⌜ ((catalogue : List Entry) → c ≡ byValue catalogue
-        → ViewCrossed r (storeOf s (now (log .entry)) (now (index .entry)) (now (current .entry)) catalogue (now (areas .entry))) t) ⌝ }
+        → ViewCrossed r (storeLent s log index current catalogue (now (areas .entry))) t) ⌝ }
 {
     let answer = tables::view(s, log, index, current, c, areas, t);
-    view_out(s.limit, areas.len(), current.len(), answer)
-}
-
-// ---- net change, keep and drop, audit
-
-fn net_change_out(answer: NetChangeAnswer) -> YkNetChange
-    ensures { λ r. ⌜ r ≡ netChangeOut answer ⌝ }
-{
-    match answer {
-        NetChangeAnswer::Entries(k) => YkNetChange {
-            question: 0,
-            entries: k,
-        },
-        NetChangeAnswer::Refused(why) => YkNetChange {
-            question: question(why),
-            entries: 0,
-        },
-    }
+    outset::view_out(s.limit, areas.len(), current.len(), answer)
 }
 
 pub fn net_change<'a>(
@@ -464,28 +175,10 @@ pub fn net_change<'a>(
     work: &mut [u8],
 ) -> YkNetChange
     ensures { λ r. ⌜ ((catalogue : List Entry) → c ≡ byValue catalogue
-        → NetChangeCrossed r (storeOf s (now (log .entry)) (now (index .entry)) (now (current .entry)) catalogue (now (areas .entry))) a b
+        → NetChangeCrossed r (storeLent s log index current catalogue (now (areas .entry))) a b
         (now (out .entry)) (now (work .entry)) (now (out .exit)) (now (work .exit))) ⌝ }
 {
-    net_change_out(comparing::net_change(s, log, index, current, c, areas, a, b, out, work))
-}
-
-fn refile(x: Filed) -> Refiled
-    ensures { λ r. ⌜ (r .change ≡ changeOut (x .numbers) (x .verdict)) × (r .catalogue ≡ x .catalogue) ⌝ }
-{
-    let verdict = x.verdict;
-    let catalogue = x.catalogue;
-    Refiled {
-        change: change_out(x.numbers, verdict),
-        catalogue,
-    }
-}
-
-pub fn refiled_change(r: Refiled) -> YkChange
-    ensures { λ x. ⌜ x ≡ r .change ⌝ }
-{
-    let change = r.change;
-    change
+    answer::net_change_out(comparing::net_change(s, log, index, current, c, areas, a, b, out, work))
 }
 
 pub fn keep(
@@ -498,11 +191,11 @@ pub fn keep(
     t: u64,
 ) -> Refiled
     ensures { λ r. ⌜ ((catalogue : List Entry) → c ≡ byValue catalogue
-        → FilesCrossed (s .files + 1) (r .change) (storeOf s (now (log .entry)) (now (index .entry)) (now (current .entry)) catalogue (now (areas .entry)))
-        (memoryOf (now (log .entry)) (now (index .entry)) (now (current .entry)) (writtenBack catalogue (r .catalogue)) (now (areas .exit)))
-        (keepOf (storeOf s (now (log .entry)) (now (index .entry)) (now (current .entry)) catalogue (now (areas .entry))) t)) ⌝ }
+        → FilesCrossed (s .files + 1) (r .change) (storeLent s log index current catalogue (now (areas .entry)))
+        (memoryLeft log index current (writtenBack catalogue (r .catalogue)) (now (areas .exit)))
+        (keepOf (storeLent s log index current catalogue (now (areas .entry))) t)) ⌝ }
 {
-    refile(filing::keep(s, log, index, current, c, areas, t))
+    answer::refile(filing::keep(s, log, index, current, c, areas, t))
 }
 
 pub fn drop(
@@ -515,21 +208,11 @@ pub fn drop(
     t: u64,
 ) -> Refiled
     ensures { λ r. ⌜ ((catalogue : List Entry) → c ≡ byValue catalogue
-        → FilesCrossed (s .files) (r .change) (storeOf s (now (log .entry)) (now (index .entry)) (now (current .entry)) catalogue (now (areas .entry)))
-        (memoryOf (now (log .entry)) (now (index .entry)) (now (current .entry)) (writtenBack catalogue (r .catalogue)) (now (areas .exit)))
-        (dropOf (storeOf s (now (log .entry)) (now (index .entry)) (now (current .entry)) catalogue (now (areas .entry))) t)) ⌝ }
+        → FilesCrossed (s .files) (r .change) (storeLent s log index current catalogue (now (areas .entry)))
+        (memoryLeft log index current (writtenBack catalogue (r .catalogue)) (now (areas .exit)))
+        (dropOf (storeLent s log index current catalogue (now (areas .entry))) t)) ⌝ }
 {
-    refile(filing::drop(s, log, index, current, c, areas, t))
-}
-
-// 1 for yes, 0 for no.
-fn yes_out(yes: bool) -> u8
-    ensures { λ r. ⌜ r ≡ yesOut yes ⌝ }
-{
-    if yes {
-        return 1;
-    }
-    0
+    answer::refile(filing::drop(s, log, index, current, c, areas, t))
 }
 
 pub fn audit(
@@ -541,7 +224,7 @@ pub fn audit(
     areas: &[u8],
 ) -> u8
     ensures { λ r. ⌜ ((catalogue : List Entry) → c ≡ byValue catalogue
-        → r ≡ yesOut (auditOf (storeOf s (now (log .entry)) (now (index .entry)) (now (current .entry)) catalogue (now (areas .entry))))) ⌝ }
+        → r ≡ yesOut (auditOf (storeLent s log index current catalogue (now (areas .entry))))) ⌝ }
 {
-    yes_out(auditing::audit(s, log, index, current, c, areas))
+    answer::yes_out(auditing::audit(s, log, index, current, c, areas))
 }

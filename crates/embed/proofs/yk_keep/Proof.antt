@@ -37,9 +37,10 @@ use Rattle.catalogue.specs.Files.{byValue, writtenBack}
 use Rattle.model.specs.Memory.{State}
 use Rattle.model.specs.Files.{keepOf}
 use Rattle.model.specs.Promises.{storeOf}
-use Rattle.numbered.specs.Crossed.{memoryOf, FilesCrossed}
-use Rattle.numbered.specs.declared.Refiled.{Refiled}
-use Rattle.numbered.specs.declared.YkChange.{YkChange}
+use Rattle.numbered.specs.Lent.{memoryOf}
+use Rattle.numbered.specs.Crossed.{FilesCrossed}
+use Rattle.numbered.specs.declared.answer.Refiled.{Refiled}
+use Rattle.numbered.specs.declared.answer.YkChange.{YkChange}
 use Rattle.model.specs.declared.Numbers.{Numbers}
 use Rattle.model.proofs.Numbers as N
 use Rattle.model.proofs.Numbers.Laws as N′
@@ -48,10 +49,10 @@ use Rattle.model.proofs.Entry as T
 use Rattle.catalogue.specs.declared.Catalogue.{Catalogue}
 use Rattle.catalogue.proofs.Catalogue as D
 use Rattle.catalogue.proofs.Catalogue.Laws as D′
-use Rattle.numbered.proofs.Refiled as R
-use Rattle.numbered.proofs.Refiled.Laws as R′
-use Rattle.numbered.proofs.YkChange as Y
-use Rattle.numbered.proofs.YkChange.Laws as Y′
+use Rattle.numbered.proofs.answer.Refiled as R
+use Rattle.numbered.proofs.answer.Refiled.Laws as R′
+use Rattle.numbered.proofs.answer.YkChange as Y
+use Rattle.numbered.proofs.answer.YkChange.Laws as Y′
 use Rattle.entries.proofs.ShellRules.{all-left, tokItems, ownItems, entry-out, alloc-all, freed, adds, calls-by, ends-by, shell-meets}
 use Rattle.entries.proofs.LentShared.{again, lends-out, comes-home}
 use Rattle.embed.proofs.Operands.{held}
@@ -67,10 +68,10 @@ use Rattle.entries.proofs.save as save
 use Rattle.entries.proofs.save.Symbol as save-def
 use Rattle.entries.proofs.save.Symbol.{name as #entries·save}
 use Rattle.entries.proofs.save.Met as save-thm
-use Rattle.numbered.proofs.refiled_change as answer
-use Rattle.numbered.proofs.refiled_change.Symbol as answer-def
-use Rattle.numbered.proofs.refiled_change.Symbol.{name as #numbered·refiled-change}
-use Rattle.numbered.proofs.refiled_change.Met as answer-thm
+use Rattle.numbered.proofs.answer.refiled_change as answer
+use Rattle.numbered.proofs.answer.refiled_change.Symbol as answer-def
+use Rattle.numbered.proofs.answer.refiled_change.Symbol.{name as #numbered·answer·refiled-change}
+use Rattle.numbered.proofs.answer.refiled_change.Met as answer-thm
 use Rattle.embed.proofs.yk_keep.Key.{name as #embed·yk-keep}
 use Rattle.embed.proofs.yk_keep as f
 use Rattle.embed.proofs.yk_keep.Statement as stated
@@ -121,7 +122,7 @@ module _ {M : Type 1} (𝓤 : URA M) (H : Heap 𝓤) (A : Atoms 𝓤) (W : Given
   ends c e r xs kept zs z v y =
       subst (λ (w : YkChange). Crossed (entries .now) w zs xs) (sym y) (subst (λ (ys : List Entry). Crossed (entries .now) (r .change) ys xs) (sym z) (kept (entries .now) e))
 
-  module _ (C : Calls 𝓤 H) (Λ : Loops 𝓤 H) (fm : FmC 𝓤 H (W .laws) C) (known-load-fn : Triple 𝓤 (C #entries·load) (LoadFn 𝓤 H A at-mem run)) (known-inner : Triple 𝓤 (C #numbered·keep) (Inner 𝓤 H A at-mem run)) (known-save : Triple 𝓤 (C #entries·save) (Save 𝓤 H A at-mem run)) (known-answer : Triple 𝓤 (C #numbered·refiled-change) (Answer 𝓤 H A at-mem run)) where
+  module _ (C : Calls 𝓤 H) (Λ : Loops 𝓤 H) (fm : FmC 𝓤 H (W .laws) C) (known-load-fn : Triple 𝓤 (C #entries·load) (LoadFn 𝓤 H A at-mem run)) (known-inner : Triple 𝓤 (C #numbered·keep) (Inner 𝓤 H A at-mem run)) (known-save : Triple 𝓤 (C #entries·save) (Save 𝓤 H A at-mem run)) (known-answer : Triple 𝓤 (C #numbered·answer·refiled-change) (Answer 𝓤 H A at-mem run)) where
     walk : ent 𝓤 (onEntry 𝓤 H A f.signature κs qs a at) (WpFn 𝓤 H C Λ code.function (u-s ∷ sliceVal (log .ptr) (length (log .now)) ∷ sliceVal (index .ptr) (length (index .now)) ∷ sliceVal (current .ptr) (length (current .now)) ∷ sliceVal (entries .ptr) (length (entries .now)) ∷ sliceVal (areas .ptr) (length (areas .now)) ∷ vint w64 t ∷ [])
         (walkOf 𝓤 H A f.ended (all-left (f.signature .params) (f.ended .kept)) (f.clauses 𝓤 H A at-mem run) .post ((κs, qs, tt, a, at), tt)))
     walk =
@@ -164,7 +165,7 @@ module _ {M : Type 1} (𝓤 : URA M) (H : Heap 𝓤) (A : Atoms 𝓤) (W : Given
         (factI 𝓤 _ (emp 𝓤) (ends r₁ e₁ r₂ (ws₂ .1 .1 .1 .1 .1 .0) e₂ (ws₃ .0) e₃ r₄ e₄)) (0 ∷ 1 ∷ 2 ∷ 6 ∷ 3 ∷ 7 ∷ 4 ∷ 9 ∷ []) refl)))))))
 
 module _ {M : Type 1} (𝓤 : URA M) (H : Heap 𝓤) (A : Atoms 𝓤) (W : Given 𝓤 H A) (at-mem : Memory → SProp 𝓤) (run : Routine → Fun 𝓤) where
-  meets : (𝓣 : Tables 𝓤 H) → Triple 𝓤 (𝓣 .C #entries·load) (LoadFn 𝓤 H A at-mem run) → Triple 𝓤 (𝓣 .C #numbered·keep) (Inner 𝓤 H A at-mem run) → Triple 𝓤 (𝓣 .C #entries·save) (Save 𝓤 H A at-mem run) → Triple 𝓤 (𝓣 .C #numbered·refiled-change) (Answer 𝓤 H A at-mem run) → Meets 𝓤 H A f.signature (WpFn 𝓤 H (𝓣 .C) (𝓣 .Λ) code.function) (f.spec 𝓤 H A at-mem run)
+  meets : (𝓣 : Tables 𝓤 H) → Triple 𝓤 (𝓣 .C #entries·load) (LoadFn 𝓤 H A at-mem run) → Triple 𝓤 (𝓣 .C #numbered·keep) (Inner 𝓤 H A at-mem run) → Triple 𝓤 (𝓣 .C #entries·save) (Save 𝓤 H A at-mem run) → Triple 𝓤 (𝓣 .C #numbered·answer·refiled-change) (Answer 𝓤 H A at-mem run) → Meets 𝓤 H A f.signature (WpFn 𝓤 H (𝓣 .C) (𝓣 .Λ) code.function) (f.spec 𝓤 H A at-mem run)
   meets 𝓣 k0 k1 k2 k3 =
       shell-meets 𝓤 H A W 𝓣 code.function f.ended (f.clauses 𝓤 H A at-mem run)
       (λ κs. (LL.vals N.the-type N′.the-laws, (slice-vals, (slice-vals, (slice-vals, (slice-vals, (slice-vals, (uint-vals w64, tt))))))))
@@ -180,4 +181,4 @@ yk-keep-spec 𝓤 H 𝓜 𝓖 𝓡 =
     (cited 𝓤 H (LoadFn 𝓤 H (𝓖 .A) (𝓜 .mem) (𝓡 .run)) 𝓜 𝓡 code.env #entries·load load-fn-def.routine code.calls-entries·load (load-fn-thm.met 𝓤 H 𝓜 𝓖 𝓡))
     (cited 𝓤 H (Inner 𝓤 H (𝓖 .A) (𝓜 .mem) (𝓡 .run)) 𝓜 𝓡 code.env #numbered·keep inner-def.routine code.calls-numbered·keep (inner-thm.met 𝓤 H 𝓜 𝓖 𝓡))
     (cited 𝓤 H (Save 𝓤 H (𝓖 .A) (𝓜 .mem) (𝓡 .run)) 𝓜 𝓡 code.env #entries·save save-def.routine code.calls-entries·save (save-thm.met 𝓤 H 𝓜 𝓖 𝓡))
-    (cited 𝓤 H (Answer 𝓤 H (𝓖 .A) (𝓜 .mem) (𝓡 .run)) 𝓜 𝓡 code.env #numbered·refiled-change answer-def.routine code.calls-numbered·refiled-change (answer-thm.met 𝓤 H 𝓜 𝓖 𝓡)))
+    (cited 𝓤 H (Answer 𝓤 H (𝓖 .A) (𝓜 .mem) (𝓡 .run)) 𝓜 𝓡 code.env #numbered·answer·refiled-change answer-def.routine code.calls-numbered·answer·refiled-change (answer-thm.met 𝓤 H 𝓜 𝓖 𝓡)))

@@ -35,15 +35,16 @@ use denote.Triple.Walked.{walkOf}
 use Rattle.codec.specs.Parts.{put}
 use Rattle.model.specs.Memory.{noEntry}
 use Rattle.model.specs.Starts.{openOf}
-use Rattle.numbered.specs.Crossed.{memoryOf, StartCrossed}
-use Rattle.numbered.specs.declared.Begun.{Begun}
-use Rattle.numbered.specs.declared.YkChange.{YkChange}
+use Rattle.numbered.specs.Lent.{memoryOf}
+use Rattle.numbered.specs.Crossed.{StartCrossed}
+use Rattle.numbered.specs.declared.answer.Begun.{Begun}
+use Rattle.numbered.specs.declared.answer.YkChange.{YkChange}
 use Rattle.model.specs.declared.Entry.{Entry}
 use Rattle.model.proofs.Entry as T
-use Rattle.numbered.proofs.Begun as R
-use Rattle.numbered.proofs.Begun.Laws as R′
-use Rattle.numbered.proofs.YkChange as Y
-use Rattle.numbered.proofs.YkChange.Laws as Y′
+use Rattle.numbered.proofs.answer.Begun as R
+use Rattle.numbered.proofs.answer.Begun.Laws as R′
+use Rattle.numbered.proofs.answer.YkChange as Y
+use Rattle.numbered.proofs.answer.YkChange.Laws as Y′
 use Rattle.entries.proofs.ShellRules.{all-left, tokItems, ownItems, entry-out, alloc-all, freed, adds, calls-by, ends-by, both-said, shell-meets}
 use Rattle.entries.proofs.LentShared.{again, lends-out, comes-home}
 use Rattle.embed.proofs.Operands.{held}
@@ -59,10 +60,10 @@ use Rattle.entries.proofs.clear as clear
 use Rattle.entries.proofs.clear.Symbol as clear-def
 use Rattle.entries.proofs.clear.Symbol.{name as #entries·clear}
 use Rattle.entries.proofs.clear.Met as clear-thm
-use Rattle.numbered.proofs.begun_change as answer
-use Rattle.numbered.proofs.begun_change.Symbol as answer-def
-use Rattle.numbered.proofs.begun_change.Symbol.{name as #numbered·begun-change}
-use Rattle.numbered.proofs.begun_change.Met as answer-thm
+use Rattle.numbered.proofs.answer.begun_change as answer
+use Rattle.numbered.proofs.answer.begun_change.Symbol as answer-def
+use Rattle.numbered.proofs.answer.begun_change.Symbol.{name as #numbered·answer·begun-change}
+use Rattle.numbered.proofs.answer.begun_change.Met as answer-thm
 use Rattle.embed.proofs.yk_open.Key.{name as #embed·yk-open}
 use Rattle.embed.proofs.yk_open as f
 use Rattle.embed.proofs.yk_open.Statement as stated
@@ -109,7 +110,7 @@ module _ {M : Type 1} (𝓤 : URA M) (H : Heap 𝓤) (A : Atoms 𝓤) (W : Given
       subst (λ (x : YkChange). StartCrossed x (memoryOf (log .now) i c zs (areas .now)) (openOf (memoryOf (log .now) (index .now) (current .now) (entries .now) (areas .now)))) (sym y)
       (subst (λ (xs : List Entry). StartCrossed (r .change) (memoryOf (log .now) i c xs (areas .now)) (openOf (memoryOf (log .now) (index .now) (current .now) (entries .now) (areas .now)))) (sym z) (kept (areas .now) (entries .now) (sym e) refl))
 
-  module _ (C : Calls 𝓤 H) (Λ : Loops 𝓤 H) (fm : FmC 𝓤 H (W .laws) C) (known-count : Triple 𝓤 (C #entries·count) (Count 𝓤 H A at-mem run)) (known-inner : Triple 𝓤 (C #numbered·open) (Inner 𝓤 H A at-mem run)) (known-clear : Triple 𝓤 (C #entries·clear) (Clear 𝓤 H A at-mem run)) (known-answer : Triple 𝓤 (C #numbered·begun-change) (Answer 𝓤 H A at-mem run)) where
+  module _ (C : Calls 𝓤 H) (Λ : Loops 𝓤 H) (fm : FmC 𝓤 H (W .laws) C) (known-count : Triple 𝓤 (C #entries·count) (Count 𝓤 H A at-mem run)) (known-inner : Triple 𝓤 (C #numbered·open) (Inner 𝓤 H A at-mem run)) (known-clear : Triple 𝓤 (C #entries·clear) (Clear 𝓤 H A at-mem run)) (known-answer : Triple 𝓤 (C #numbered·answer·begun-change) (Answer 𝓤 H A at-mem run)) where
     walk : ent 𝓤 (onEntry 𝓤 H A f.signature κs qs a at) (WpFn 𝓤 H C Λ code.function (sliceVal (log .ptr) (length (log .now)) ∷ sliceVal (index .ptr) (length (index .now)) ∷ sliceVal (current .ptr) (length (current .now)) ∷ sliceVal (entries .ptr) (length (entries .now)) ∷ sliceVal (areas .ptr) (length (areas .now)) ∷ [])
         (walkOf 𝓤 H A f.ended (all-left (f.signature .params) (f.ended .kept)) (f.clauses 𝓤 H A at-mem run) .post ((κs, qs, tt, a, at), tt)))
     walk =
@@ -156,7 +157,7 @@ module _ {M : Type 1} (𝓤 : URA M) (H : Heap 𝓤) (A : Atoms 𝓤) (W : Given
         (factI 𝓤 _ (emp 𝓤) (ends r₁ e₁ r₂ (ws₂ .1 .0) (ws₂ .1 .1 .0) (e₂ .1) (ws₃ .0) e₃ r₄ e₄)) (2 ∷ 3 ∷ 4 ∷ 8 ∷ 0 ∷ 5 ∷ 6 ∷ 9 ∷ 11 ∷ []) refl)))))))
 
 module _ {M : Type 1} (𝓤 : URA M) (H : Heap 𝓤) (A : Atoms 𝓤) (W : Given 𝓤 H A) (at-mem : Memory → SProp 𝓤) (run : Routine → Fun 𝓤) where
-  meets : (𝓣 : Tables 𝓤 H) → Triple 𝓤 (𝓣 .C #entries·count) (Count 𝓤 H A at-mem run) → Triple 𝓤 (𝓣 .C #numbered·open) (Inner 𝓤 H A at-mem run) → Triple 𝓤 (𝓣 .C #entries·clear) (Clear 𝓤 H A at-mem run) → Triple 𝓤 (𝓣 .C #numbered·begun-change) (Answer 𝓤 H A at-mem run) → Meets 𝓤 H A f.signature (WpFn 𝓤 H (𝓣 .C) (𝓣 .Λ) code.function) (f.spec 𝓤 H A at-mem run)
+  meets : (𝓣 : Tables 𝓤 H) → Triple 𝓤 (𝓣 .C #entries·count) (Count 𝓤 H A at-mem run) → Triple 𝓤 (𝓣 .C #numbered·open) (Inner 𝓤 H A at-mem run) → Triple 𝓤 (𝓣 .C #entries·clear) (Clear 𝓤 H A at-mem run) → Triple 𝓤 (𝓣 .C #numbered·answer·begun-change) (Answer 𝓤 H A at-mem run) → Meets 𝓤 H A f.signature (WpFn 𝓤 H (𝓣 .C) (𝓣 .Λ) code.function) (f.spec 𝓤 H A at-mem run)
   meets 𝓣 k0 k1 k2 k3 =
       shell-meets 𝓤 H A W 𝓣 code.function f.ended (f.clauses 𝓤 H A at-mem run)
       (λ κs. (slice-vals, (slice-vals, (slice-vals, (slice-vals, (slice-vals, tt))))))
@@ -172,4 +173,4 @@ yk-open-spec 𝓤 H 𝓜 𝓖 𝓡 =
     (cited 𝓤 H (Count 𝓤 H (𝓖 .A) (𝓜 .mem) (𝓡 .run)) 𝓜 𝓡 code.env #entries·count count-def.routine code.calls-entries·count (count-thm.met 𝓤 H 𝓜 𝓖 𝓡))
     (cited 𝓤 H (Inner 𝓤 H (𝓖 .A) (𝓜 .mem) (𝓡 .run)) 𝓜 𝓡 code.env #numbered·open inner-def.routine code.calls-numbered·open (inner-thm.met 𝓤 H 𝓜 𝓖 𝓡))
     (cited 𝓤 H (Clear 𝓤 H (𝓖 .A) (𝓜 .mem) (𝓡 .run)) 𝓜 𝓡 code.env #entries·clear clear-def.routine code.calls-entries·clear (clear-thm.met 𝓤 H 𝓜 𝓖 𝓡))
-    (cited 𝓤 H (Answer 𝓤 H (𝓖 .A) (𝓜 .mem) (𝓡 .run)) 𝓜 𝓡 code.env #numbered·begun-change answer-def.routine code.calls-numbered·begun-change (answer-thm.met 𝓤 H 𝓜 𝓖 𝓡)))
+    (cited 𝓤 H (Answer 𝓤 H (𝓖 .A) (𝓜 .mem) (𝓡 .run)) 𝓜 𝓡 code.env #numbered·answer·begun-change answer-def.routine code.calls-numbered·answer·begun-change (answer-thm.met 𝓤 H 𝓜 𝓖 𝓡)))

@@ -39,8 +39,8 @@ use Rattle.model.proofs.Numbers as N
 use Rattle.model.proofs.Numbers.Laws as N′
 use Rattle.model.specs.declared.Entry.{Entry}
 use Rattle.model.proofs.Entry as T
-use Rattle.numbered.proofs.YkPosition as R
-use Rattle.numbered.proofs.YkPosition.Laws as R′
+use Rattle.numbered.proofs.answer.YkPosition as R
+use Rattle.numbered.proofs.answer.YkPosition.Laws as R′
 use Rattle.entries.proofs.ShellRules.{all-left, tokItems, ownItems, entry-out, alloc-all, freed, here, adds, calls-by, ends-by, shell-meets}
 use Rattle.entries.proofs.count as first
 use Rattle.entries.proofs.count.Symbol as first-def

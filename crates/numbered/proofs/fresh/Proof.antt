@@ -1,10 +1,9 @@
 -- `numbered::fresh` meets its contract. Assumes nothing.
 use Rattle.numbered.proofs.Lengths.{fresh-few}
-use Rattle.numbered.proofs.Crossings.{start-crossed}
 use borrow.Author.Needs.{needs}
 use Rattle.numbered.proofs.fresh.Statement.{statement}
 use Rattle.numbered.proofs.fresh.Tie as tie
-use Rattle.numbered.proofs.begin.Reads as begin-reads
+use Rattle.numbered.proofs.answer.begin.Reads as begin-reads
 use Rattle.opening.proofs.fresh.Reads as fresh-reads
 
 fresh-requires : tie.Need-fresh-requires
@@ -21,11 +20,14 @@ same-length-2 c = search needs
 
 returns : tie.Need-returns
 returns c =
-    let o = c .before .before .before .before .before in
-    let a = o .before .before .before .before .before .args in (
+    let o = c .before .before .before .before .before in (
       rw (c .begin .ensures .1) (fresh-few (o .fresh .ensures)),
-      λ index area catalogue e f.
-          start-crossed (c .begin .result) (o .fresh .result) _ index _ catalogue area _ (c .begin .ensures) (o .fresh .ensures .fresh index area catalogue e f),
+      λ index area catalogue e f. record {
+        numbers = o .fresh .result .numbers;
+        verdict = o .fresh .result .verdict;
+        is = c .begin .ensures .0;
+        kept = rw (c .begin .ensures .1) (o .fresh .ensures .fresh index area catalogue e f);
+      },
     )
 
 pub fresh-spec : {M : Type 1} → statement M

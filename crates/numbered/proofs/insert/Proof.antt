@@ -2,14 +2,12 @@
 use borrow.Author.Needs.{needs}
 use Rattle.numbered.proofs.insert.Statement.{statement}
 use Rattle.numbered.proofs.insert.Tie as tie
-use Rattle.appending.proofs.insert.Reads as insert-reads
-use Rattle.numbered.proofs.change_out.Reads as change-out-reads
 
 insert-requires : tie.Need-insert-requires
 insert-requires c κs = search needs
 
-change-out-requires : tie.Need-change-out-requires
-change-out-requires c κs = search needs
+append-out-requires : tie.Need-append-out-requires
+append-out-requires c κs = search needs
 
 same-length : tie.Need-same-length
 same-length c = search needs
@@ -22,14 +20,8 @@ same-length-3 c = search needs
 
 returns : tie.Need-returns
 returns c catalogue area e g =
-    record {
-      numbers = c .before .before .before .before .before .before .before .insert .result .numbers;
-      verdict = c .before .before .before .before .before .before .before .insert .result .verdict;
-      is = c .change-out .ensures;
-      kept = c .before .before .before .before .before .before .before .insert .ensures catalogue area e g;
-    }
+    let p = c .before .before .before .before .before .before .before in
+    record { numbers = p .insert .result .numbers; verdict = p .insert .result .verdict; is = c .append-out .ensures; kept = p .insert .ensures catalogue area e g }
 
 pub insert-spec : {M : Type 1} → statement M
-insert-spec =
-    tie.close
-    (tie.spec insert-requires change-out-requires same-length same-length-2 same-length-3 returns)
+insert-spec = tie.close (tie.spec insert-requires append-out-requires same-length same-length-2 same-length-3 returns)

@@ -1,6 +1,5 @@
 -- `numbered::keep` meets its contract. Assumes nothing.
 use borrow.Author.Needs.{needs}
-use Rattle.numbered.proofs.Crossings.{files-crossed}
 use Rattle.numbered.proofs.keep.Statement.{statement}
 use Rattle.numbered.proofs.keep.Tie as tie
 
@@ -14,7 +13,14 @@ same-length : tie.Need-same-length
 same-length c = search needs
 
 returns : tie.Need-returns
-returns c catalogue e = files-crossed _ _ (c .refile .result) (c .before .before .before .keep .result) _ _ _ catalogue _ _ (c .refile .ensures) (c .before .before .before .keep .ensures catalogue e)
+returns c catalogue e =
+    let p = c .before .before .before in
+    record {
+      numbers = p .keep .result .numbers;
+      verdict = p .keep .result .verdict;
+      is = c .refile .ensures .0;
+      kept = rw (c .refile .ensures .1) (p .keep .ensures catalogue e);
+    }
 
 pub keep-spec : {M : Type 1} → statement M
 keep-spec = tie.close (tie.spec keep-requires refile-requires same-length returns)

@@ -1,10 +1,9 @@
 -- `numbered::open` meets its contract. Assumes nothing.
 use Rattle.numbered.proofs.Lengths.{open-few}
-use Rattle.numbered.proofs.Crossings.{start-crossed}
 use borrow.Author.Needs.{needs}
 use Rattle.numbered.proofs.open.Statement.{statement}
 use Rattle.numbered.proofs.open.Tie as tie
-use Rattle.numbered.proofs.begin.Reads as begin-reads
+use Rattle.numbered.proofs.answer.begin.Reads as begin-reads
 use Rattle.opening.proofs.open.Reads as open-reads
 
 open-requires : tie.Need-open-requires
@@ -21,11 +20,14 @@ same-length-2 c = search needs
 
 returns : tie.Need-returns
 returns c =
-    let o = c .before .before .before .before .before in
-    let a = o .before .before .before .before .before .before .args in (
+    let o = c .before .before .before .before .before in (
       rw (c .begin .ensures .1) (open-few (o .«open» .ensures)),
-      λ area catalogue e f.
-          start-crossed (c .begin .result) (o .«open» .result) _ _ _ catalogue area _ (c .begin .ensures) (o .«open» .ensures .opened area catalogue e f),
+      λ area catalogue e f. record {
+        numbers = o .«open» .result .numbers;
+        verdict = o .«open» .result .verdict;
+        is = c .begin .ensures .0;
+        kept = rw (c .begin .ensures .1) (o .«open» .ensures .opened area catalogue e f);
+      },
     )
 
 pub open-spec : {M : Type 1} → statement M

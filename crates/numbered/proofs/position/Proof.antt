@@ -2,7 +2,7 @@
 use borrow.Author.Needs.{needs}
 use Rattle.numbered.proofs.position.Statement.{statement}
 use Rattle.numbered.proofs.position.Tie as tie
-use Rattle.numbered.proofs.position_out.Reads as position-out-reads
+use Rattle.numbered.proofs.answer.position_out.Reads as position-out-reads
 use Rattle.tables.proofs.position.Reads as position-reads
 
 position-requires : tie.Need-position-requires

@@ -2,7 +2,7 @@
 use borrow.Author.Needs.{needs}
 use Rattle.numbered.proofs.table.Statement.{statement}
 use Rattle.numbered.proofs.table.Tie as tie
-use Rattle.numbered.proofs.table_out.Reads as table-out-reads
+use Rattle.numbered.proofs.answer.table_out.Reads as table-out-reads
 use Rattle.tables.proofs.table.Reads as table-reads
 
 table-requires : tie.Need-table-requires

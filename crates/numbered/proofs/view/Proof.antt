@@ -3,7 +3,7 @@ use Rattle.numbered.proofs.Spans.{span-part, span-within}
 use borrow.Author.Needs.{needs}
 use Rattle.numbered.proofs.view.Statement.{statement}
 use Rattle.numbered.proofs.view.Tie as tie
-use Rattle.numbered.proofs.view_out.Reads as view-out-reads
+use Rattle.numbered.proofs.outset.view_out.Reads as view-out-reads
 use Rattle.tables.proofs.view.Reads as view-reads
 
 view-requires : tie.Need-view-requires

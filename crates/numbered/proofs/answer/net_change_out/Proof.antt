@@ -1,8 +1,8 @@
--- `numbered::net_change_out` meets its contract. Assumes nothing.
+-- `numbered::answer::net_change_out` meets its contract. Assumes nothing.
 use Rattle.numbered.specs.Answers.{netChangeOut}
 use borrow.Author.Needs.{needs}
-use Rattle.numbered.proofs.net_change_out.Statement.{statement}
-use Rattle.numbered.proofs.net_change_out.Tie as tie
+use Rattle.numbered.proofs.answer.net_change_out.Statement.{statement}
+use Rattle.numbered.proofs.answer.net_change_out.Tie as tie
 
 enum-known-answer : tie.Need-enum-known-answer
 enum-known-answer c = search needs

@@ -1,8 +1,8 @@
--- `numbered::later_of` meets its contract. Assumes nothing.
+-- `numbered::answer::later_of` meets its contract. Assumes nothing.
 use Rattle.numbered.specs.Answers.{laterOf}
 use borrow.Author.Needs.{needs}
-use Rattle.numbered.proofs.later_of.Statement.{statement}
-use Rattle.numbered.proofs.later_of.Tie as tie
+use Rattle.numbered.proofs.answer.later_of.Statement.{statement}
+use Rattle.numbered.proofs.answer.later_of.Tie as tie
 
 enum-told : tie.Need-enum-told
 enum-told c = search needs

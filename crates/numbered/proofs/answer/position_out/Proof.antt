@@ -1,8 +1,8 @@
--- `numbered::position_out` meets its contract. Assumes nothing.
+-- `numbered::answer::position_out` meets its contract. Assumes nothing.
 use Rattle.numbered.specs.Answers.{positionOut}
 use borrow.Author.Needs.{needs}
-use Rattle.numbered.proofs.position_out.Statement.{statement}
-use Rattle.numbered.proofs.position_out.Tie as tie
+use Rattle.numbered.proofs.answer.position_out.Statement.{statement}
+use Rattle.numbered.proofs.answer.position_out.Tie as tie
 
 enum-known-answer : tie.Need-enum-known-answer
 enum-known-answer c = search needs

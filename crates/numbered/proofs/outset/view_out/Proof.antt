@@ -1,13 +1,13 @@
--- `numbered::view_out` meets its contract. Assumes nothing.
+-- `numbered::outset::view_out` meets its contract. Assumes nothing.
 use Rattle.numbered.specs.Answers.{viewOut}
 use borrow.Author.Needs.{needs}
-use Rattle.numbered.proofs.view_out.Statement.{statement}
-use Rattle.numbered.proofs.view_out.Tie as tie
+use Rattle.numbered.proofs.outset.view_out.Statement.{statement}
+use Rattle.numbered.proofs.outset.view_out.Tie as tie
 use Rattle.answers.proofs.question.Reads as question-reads
-use Rattle.numbered.proofs.area_out.Reads as area-out-reads
-use Rattle.numbered.proofs.later_of.Reads as later-of-reads
-use Rattle.numbered.proofs.place_out.Reads as place-out-reads
-use Rattle.numbered.proofs.span_of.Reads as span-of-reads
+use Rattle.numbered.proofs.outset.area_out.Reads as area-out-reads
+use Rattle.numbered.proofs.answer.later_of.Reads as later-of-reads
+use Rattle.numbered.proofs.outset.place_out.Reads as place-out-reads
+use Rattle.numbered.proofs.outset.span_of.Reads as span-of-reads
 
 enum-known-answer : tie.Need-enum-known-answer
 enum-known-answer c = search needs

@@ -1,8 +1,8 @@
--- `numbered::table_out` meets its contract. Assumes nothing.
+-- `numbered::answer::table_out` meets its contract. Assumes nothing.
 use Rattle.numbered.specs.Answers.{tableOut}
 use borrow.Author.Needs.{needs}
-use Rattle.numbered.proofs.table_out.Statement.{statement}
-use Rattle.numbered.proofs.table_out.Tie as tie
+use Rattle.numbered.proofs.answer.table_out.Statement.{statement}
+use Rattle.numbered.proofs.answer.table_out.Tie as tie
 
 enum-known-answer : tie.Need-enum-known-answer
 enum-known-answer c = search needs

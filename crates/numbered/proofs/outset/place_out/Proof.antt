@@ -1,8 +1,8 @@
--- `numbered::place_out` meets its contract. Assumes nothing.
+-- `numbered::outset::place_out` meets its contract. Assumes nothing.
 use Rattle.numbered.specs.Answers.{placeOut}
 use borrow.Author.Needs.{needs}
-use Rattle.numbered.proofs.place_out.Statement.{statement}
-use Rattle.numbered.proofs.place_out.Tie as tie
+use Rattle.numbered.proofs.outset.place_out.Statement.{statement}
+use Rattle.numbered.proofs.outset.place_out.Tie as tie
 
 enum-told : tie.Need-enum-told
 enum-told c = search needs

@@ -1,8 +1,8 @@
--- `numbered::area_out` meets its contract. Assumes nothing.
+-- `numbered::outset::area_out` meets its contract. Assumes nothing.
 use Rattle.numbered.specs.Answers.{areaOut}
 use borrow.Author.Needs.{needs}
-use Rattle.numbered.proofs.area_out.Statement.{statement}
-use Rattle.numbered.proofs.area_out.Tie as tie
+use Rattle.numbered.proofs.outset.area_out.Statement.{statement}
+use Rattle.numbered.proofs.outset.area_out.Tie as tie
 
 enum-told : tie.Need-enum-told
 enum-told c = search needs

@@ -1,0 +1,193 @@
+// The answers in numbers: for each answer of a call the struct that crosses to C in its place.
+ghost use mathlib.Core.Path.{_≡_};
+ghost use Rattle.numbered.specs.Answers.{changeOut, positionOut, laterOf, tableOut, netChangeOut, yesOut};
+use answers::question;
+use catalogue::Catalogue;
+use filing::Filed;
+use model::Changed;
+use model::NetChangeAnswer;
+use model::Numbers;
+use model::PositionAnswer;
+use model::Side;
+use model::TableAnswer;
+use model::Verdict;
+use opening::Started;
+
+// The answer of a call that may change the store: the numbers then, the question answered no, or 0, and at 17 the record
+// number.
+#[repr(C)]
+pub struct YkChange {
+    pub numbers: Numbers,
+    pub question: u8,
+    pub record: u32,
+}
+
+#[repr(C)]
+pub struct YkPosition {
+    pub question: u8,
+    pub page: u32,
+}
+
+// The answer of a table; `later` is 1 where the outset used lies at or after the time, else 0.
+#[repr(C)]
+pub struct YkTable {
+    pub question: u8,
+    pub rows: u32,
+    pub later: u8,
+    pub distance: u32,
+}
+
+#[repr(C)]
+pub struct YkNetChange {
+    pub question: u8,
+    pub entries: u32,
+}
+
+// What a start answers, and how many entries of the catalogue are to be cleared.
+pub struct Begun {
+    pub change: YkChange,
+    pub clears: usize,
+}
+
+// What keep or drop answers, and the catalogue to be written back.
+pub struct Refiled {
+    pub change: YkChange,
+    pub catalogue: Catalogue,
+}
+
+fn change_out(numbers: Numbers, verdict: Verdict) -> YkChange
+    ensures { λ r. ⌜ r ≡ changeOut numbers verdict ⌝ }
+{
+    match verdict {
+        Verdict::Accepted => YkChange {
+            numbers,
+            question: 0,
+            record: 0,
+        },
+        Verdict::Refused(why) => {
+            let no = answers::number(why);
+            YkChange {
+                numbers,
+                question: no.0,
+                record: no.1,
+            }
+        }
+    }
+}
+
+// What insert, delete or update answered, in numbers.
+pub fn append_out(x: Changed) -> YkChange
+    ensures { λ r. ⌜ r ≡ changeOut (x .numbers) (x .verdict) ⌝ }
+{
+    let verdict = x.verdict;
+    change_out(x.numbers, verdict)
+}
+
+// What a start answered, in numbers.
+pub fn begin(x: Started) -> Begun
+    ensures { λ r. ⌜ (r .change ≡ changeOut (x .numbers) (x .verdict)) × (r .clears ≡ x .clears) ⌝ }
+{
+    let verdict = x.verdict;
+    Begun {
+        change: change_out(x.numbers, verdict),
+        clears: x.clears,
+    }
+}
+
+pub fn begun_change(r: Begun) -> YkChange
+    ensures { λ x. ⌜ x ≡ r .change ⌝ }
+{
+    let change = r.change;
+    change
+}
+
+// What keep or drop answered, in numbers.
+pub fn refile(x: Filed) -> Refiled
+    ensures { λ r. ⌜ (r .change ≡ changeOut (x .numbers) (x .verdict)) × (r .catalogue ≡ x .catalogue) ⌝ }
+{
+    let verdict = x.verdict;
+    let catalogue = x.catalogue;
+    Refiled {
+        change: change_out(x.numbers, verdict),
+        catalogue,
+    }
+}
+
+pub fn refiled_change(r: Refiled) -> YkChange
+    ensures { λ x. ⌜ x ≡ r .change ⌝ }
+{
+    let change = r.change;
+    change
+}
+
+pub fn position_out(answer: PositionAnswer) -> YkPosition
+    ensures { λ r. ⌜ r ≡ positionOut answer ⌝ }
+{
+    match answer {
+        PositionAnswer::At(p) => YkPosition {
+            question: 0,
+            page: p.page.0,
+        },
+        PositionAnswer::Refused(why) => YkPosition {
+            question: question(why),
+            page: 0,
+        },
+    }
+}
+
+pub fn later_of(side: Side) -> u8
+    ensures { λ r. ⌜ r ≡ laterOf side ⌝ }
+{
+    match side {
+        Side::Earlier => 0,
+        Side::Later => 1,
+    }
+}
+
+pub fn table_out(answer: TableAnswer) -> YkTable
+    ensures { λ r. ⌜ r ≡ tableOut answer ⌝ }
+{
+    match answer {
+        TableAnswer::Table {
+            rows,
+            side,
+            distance,
+        } => YkTable {
+            question: 0,
+            rows,
+            later: later_of(side),
+            distance,
+        },
+        TableAnswer::Refused(why) => YkTable {
+            question: question(why),
+            rows: 0,
+            later: 0,
+            distance: 0,
+        },
+    }
+}
+
+pub fn net_change_out(answer: NetChangeAnswer) -> YkNetChange
+    ensures { λ r. ⌜ r ≡ netChangeOut answer ⌝ }
+{
+    match answer {
+        NetChangeAnswer::Entries(k) => YkNetChange {
+            question: 0,
+            entries: k,
+        },
+        NetChangeAnswer::Refused(why) => YkNetChange {
+            question: question(why),
+            entries: 0,
+        },
+    }
+}
+
+// 1 for yes, 0 for no.
+pub fn yes_out(yes: bool) -> u8
+    ensures { λ r. ⌜ r ≡ yesOut yes ⌝ }
+{
+    if yes {
+        return 1;
+    }
+    0
+}
