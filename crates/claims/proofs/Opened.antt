@@ -9,7 +9,7 @@ use lib.Dec.{leb, eqb}
 use borrow.Author.Tests.{leb-true, eqb-true}
 use Rattle.codec.proofs.Numbers.{number-lt, are-bytes-put, are-bytes-drop}
 use Rattle.model.specs.Answers.{Outcome, answers, refuses, refusesAt, question, firstNo}
-use Rattle.model.specs.Settings.{orderInRange, pageSizeInRange, rowLimitInRange, recordsInRange}
+use Rattle.model.specs.Settings.{orderInRange, pageSizeInRange, rowLimitInRange, SettingsFit, recordsInRange}
 use Rattle.model.specs.Records.{headerOrder, headerPage, headerLimit, headerRecords, headerLast}
 use Rattle.model.specs.Rows.{tableBytes}
 use Rattle.model.specs.Timeslice.{timeslice}
@@ -21,6 +21,7 @@ use Rattle.model.specs.Starts.{openQuestions, writtenLog, wellWritten, openedMe
 use Rattle.model.specs.Files.{filesIn}
 use Rattle.model.specs.Calls.{Start, StartFits, begun, Accepted}
 use Rattle.model.proofs.Compare.{and-left, and-right}
+use Rattle.model.proofs.SettingsLaws.{settings-fit}
 use Rattle.model.proofs.PageLaws.{length-page-times}
 use Rattle.model.proofs.RecordLaws.{length-records}
 use Rattle.model.proofs.TimeLaws.{timeslice-rows}
@@ -33,7 +34,7 @@ use Rattle.model.specs.Facts.{FilesAre, AuditedFacts, InOrder}
 use Rattle.model.proofs.AuditLaws.{audited-of-facts}
 use Rattle.claims.proofs.IndexWords.{below-with-tree, keys-below}
 use Rattle.claims.proofs.Regions.{asked, table-front, table-length, tree-again, emptied-rest, emptied-fits}
-use Rattle.claims.proofs.Started.{SettingsFit, settings-fit, fresh-state, fresh-audited}
+use Rattle.claims.proofs.Started.{fresh-state, fresh-audited}
 
 module _ (m : Memory) where
   -- the state that an accepted opening leaves

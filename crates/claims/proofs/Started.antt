@@ -12,7 +12,7 @@ use Rattle.codec.specs.Parts.{zeros, put}
 use Rattle.codec.proofs.Numbers.{are-bytes-put, are-bytes-zeros}
 use Rattle.codec.proofs.PartLaws.{length-put}
 use Rattle.model.specs.Answers.{Outcome, answers, refuses, question, firstNo}
-use Rattle.model.specs.Settings.{orderInRange, pageSizeInRange, rowLimitInRange}
+use Rattle.model.specs.Settings.{orderInRange, pageSizeInRange, rowLimitInRange, SettingsFit}
 use Rattle.model.specs.Records.{records, headerBytes}
 use Rattle.model.specs.Timeslice.{table, upTo, timeslice}
 use Rattle.model.specs.Legal.{legalAfter, lastFrom}
@@ -24,6 +24,7 @@ use Rattle.model.specs.Starts.{freshQuestions, freshNumbers, freshMemory, fresh
 use Rattle.model.specs.Files.{filesIn}
 use Rattle.model.specs.Calls.{Start, StartFits, Accepted}
 use Rattle.model.proofs.Compare.{and-left, and-right}
+use Rattle.model.proofs.SettingsLaws.{settings-fit}
 use Rattle.model.proofs.PageCounts.{pages-zero}
 use Rattle.tree.proofs.Leaves.{leaves-none}
 use Rattle.tree.proofs.Written.{packed-with}
@@ -33,29 +34,6 @@ use Rattle.rows.proofs.TableBytes.{table-bytes-empty}
 use Rattle.model.specs.Facts.{FilesAre, AuditedFacts, InOrder}
 use Rattle.model.proofs.AuditLaws.{audited-of-facts}
 use Rattle.claims.proofs.Regions.{asked, table-front, table-length, emptied-rest, emptied-fits}
-
--- ---- settings
-
--- the settings' questions answered yes, and those behind them
-pub record SettingsFit (d N R : ℕ) : Type 0 where
-  pub order-low : 2 ≤ d
-  pub order-high : d ≤ 64
-  pub page-low : 2 ≤ N
-  pub page-high : N ≤ 64
-  pub limit-low : 1 ≤ R
-  pub limit-high : R ≤ 1024
-
-pub settings-fit : (d N R : ℕ) → orderInRange d ≡ true → pageSizeInRange N ≡ true → rowLimitInRange R ≡ true → SettingsFit d N R
-unfolding orderInRange pageSizeInRange rowLimitInRange
-settings-fit d N R a b c =
-    record {
-      order-low = leb-true _ _ (and-left (leb 2 d) (leb d 64) a);
-      order-high = leb-true _ _ (and-right (leb 2 d) (leb d 64) a);
-      page-low = leb-true _ _ (and-left (leb 2 N) (leb N 64) b);
-      page-high = leb-true _ _ (and-right (leb 2 N) (leb N 64) b);
-      limit-low = leb-true _ _ (and-left (leb 1 R) (leb R 1024) c);
-      limit-high = leb-true _ _ (and-right (leb 1 R) (leb R 1024) c);
-    }
 
 -- no key takes no word
 no-words : (d : ℕ) → 2 ≤ d → indexWords d 0 ≡ 0
