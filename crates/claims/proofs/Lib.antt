@@ -3,6 +3,7 @@ pub mod IndexWords
 pub mod Regions
 pub mod Started
 pub mod Opened
+pub mod Refused
 pub mod Appended
 pub mod Changed
 pub mod SecondDemands
@@ -10,9 +11,9 @@ pub mod FileLists
 pub mod FilesKept
 pub mod Kept
 pub mod Lists
+pub mod Lengths
 pub mod FileFronts
 pub mod Exact
-pub mod Refused
 pub mod NetChanges
 pub mod Outsets
 pub mod SameLogs

@@ -1,13 +1,11 @@
 -- Computed cases: lengths that all differ, for numbers that all differ, and each question answered no, alone and together with the
 -- one behind it. Assumes nothing.
-use Prim.Native.Nat.{ℕ}
 use mathlib.Core.Path.{_≡_, refl}
-use mathlib.Core.List.{List, [], _∷_, map}
-use Rattle.model.specs.Answers.{Outcome, answers, refuses, firstNo}
+use mathlib.Core.List.{[], _∷_}
+use Rattle.model.specs.Answers.{answers, refuses, firstNo}
 use Rattle.model.specs.Settings.{orderInRange, pageSizeInRange, rowLimitInRange, recordsInRange}
 use Rattle.model.specs.Shape.{cofactorUpTo, cofactor, opens}
 use Rattle.model.specs.Numbering.{opened, nodes}
-use Rattle.lending.specs.declared.Lengths.{Lengths}
 use Rattle.lending.specs.Lengths.{lengthsOf}
 
 -- five records are three pages of 2: two leaves and the node over them, of two words each

@@ -2,19 +2,19 @@
 -- yes, and a refusal by any other is none of these. Assumes nothing.
 use Prim.Native.Nat.{ℕ, zero, suc, _+_, _*_, _/_, _≤_, _<_}
 use mathlib.Core.Path.{_≡_, refl, sym, ap, _∙_}
-use mathlib.Core.List.{List, [], _∷_, _++_}
+use mathlib.Core.List.{List, [], _∷_}
 use mathlib.Core.Bool.{Bool, true, false, cond, _&&_, false≢true}
 use native.Mathlib.Omega.{arith}
 use native.Mathlib.Nat.{le-div-iff-mul-le, mul-comm}
 use lib.ListN.{length}
-use lib.Dec.{leb, ltb}
+use lib.Dec.{leb}
 use borrow.Author.Tests.{le-leb, lt-ltb}
 use Rattle.model.specs.Answers.{Outcome, answers, refuses, refusesAt, Question, firstNo, unlessNo, TableSaid, OutsetSaid}
-use Rattle.model.specs.Settings.{recordsInRange, SettingsFit, settingsQuestions}
+use Rattle.model.specs.Settings.{recordsInRange}
 use Rattle.model.specs.Records.{headerOrder, headerPage, headerLimit, headerRecords}
 use Rattle.model.specs.Pages.{indexNeed}
 use Rattle.model.specs.Memory.{Memory, State, capacity, capacityOf, logLong, indexLong, tableLong}
-use Rattle.model.specs.Starts.{After, after, notStarted, freshQuestions, freshOf, openQuestions, wellWritten, openOf}
+use Rattle.model.specs.Starts.{After, after, notStarted, freshOf, openQuestions, wellWritten, openOf}
 use Rattle.model.specs.Changes.{unchanged, roomFor, insertQuestions, presentQuestions, insertOf, deleteOf, updateOf}
 use Rattle.model.specs.Queries.{Written, Viewed, Netted, timeQuestions, tableQuestions, netQuestions, positionOf, tableOf, viewOf, netOf}
 use Rattle.model.specs.Files.{keepQuestions, keepOf, dropQuestions, dropOf}
@@ -64,9 +64,6 @@ within-capacity R entries bytes k some few lent long =
     omega arith
 
 module _ (d N R n f : ℕ) (l : Lengths) (a : Answered d N R n f l) where
-  abbrev lent : Lengths
-  lent = lengthsFor d N R n f
-
   -- an index for n records serves fewer
   pub index-serves : (k words : ℕ) → k ≤ n → indexNeed d N n ≤ words → indexNeed d N k ≤ words
   index-serves k words h g =
@@ -124,7 +121,7 @@ module _ (d N R n f : ℕ) (l : Lengths) (a : Answered d N R n f l) where
   unfolding freshOf firstNo tableLong
   fresh-accepted m e =
       let space : (leb 24 (length (m .log)) && leb (8 * R) (length (m .table))) ≡ true =
-      and-both (le-leb 24 (length (m .log)) (omega (arith, e .log-long))) (le-leb (8 * R) (length (m .table)) (e .table-long)) in
+      and-both (le-leb 24 (length (m .log)) (omega (arith, e .log-long))) (le-leb (8 * R) (length (m .table)) (omega (arith, e .table-long))) in
       rw (a .go-on, space)
 
   open-supplied : (m : Memory) (k : ℕ) → k ≤ n → HeaderSays d N R k (m .log) → Enough (lengthsFor d N R n f) m → lacking (openOf m .outcome) ≡ false
@@ -144,7 +141,7 @@ module _ (d N R n f : ℕ) (l : Lengths) (a : Answered d N R n f l) where
       space =
           rw (says .order-is, says .page-is, says .limit-is, says .records-is)
           (and-both (and-both (and-both (le-leb k 65536 (omega (arith, a .records-few))) (le-leb (24 + 24 * k) (length (m .log)) (omega (arith, e .log-long))))
-          (le-leb (indexNeed d N k) (length (m .index)) (index-serves k _ h (e .index-long)))) (le-leb (8 * R) (length (m .table)) (e .table-long)))
+          (le-leb (indexNeed d N k) (length (m .index)) (index-serves k _ h (e .index-long)))) (le-leb (8 * R) (length (m .table)) (omega (arith, e .table-long))))
 
 -- ---- the theorems
 
