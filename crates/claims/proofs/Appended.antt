@@ -1,6 +1,6 @@
 -- Records that may follow, appended to a state in order, leave a state in order. Assumes nothing.
 use Prim.Native.Nat.{ℕ, _+_, _*_, _^_, _≤_, _<_}
-use mathlib.Core.Path.{_≡_, sym, ap, _∙_}
+use mathlib.Core.Path.{_≡_, refl, sym, ap, _∙_}
 use mathlib.Core.List.{List, [], _∷_, _++_}
 use native.Mathlib.Omega.{arith}
 use lib.ListN.{length, getD, length-append}
@@ -28,7 +28,7 @@ use Rattle.claims.specs.Following.{MayFollow}
 use Rattle.model.proofs.AuditLaws.{audited-facts, audited-of-facts}
 use Rattle.claims.proofs.FactLaws.{length-log, log-fits}
 use Rattle.claims.proofs.IndexWords.{below-with-tree, keys-below}
-use Rattle.claims.proofs.Regions.{table-front, table-length, tree-again}
+use Rattle.claims.proofs.Regions.{SameLengths, table-front, table-length, tree-again}
 
 -- count files hold the tables of their times, whatever later records follow
 pub files-longer : (R last t : ℕ) (rs new : List Rec) (before : ℕ) (fs : List File) → last ≤ t → ((i : ℕ) → i < length new → last < getD new i noRecord .time)
@@ -88,12 +88,24 @@ module _ (st : State) (t : ℕ) (new : List Rec) (o : InOrder st) (g : MayFollow
   key-room : indexWords order (length (pageTimes page all)) ≤ length (st .memory .index)
   key-room = rw key-count (g .index-room)
 
+  pub appended-lengths : SameLengths (st .memory) (appended st t new .memory)
+  unfolding appended
+  appended-lengths =
+      record {
+        log-same = log-length;
+        index-same = length-with order (facts .limits .order-low) (pageTimes page all) (st .memory .index) key-room;
+        table-same = table-length limit (timeslice t all) (st .memory .table) few-rows (facts .limits .table-long);
+        entries-same = refl;
+        areas-same = refl;
+      }
+
   appended-facts : AuditedFacts (appended st t new)
   unfolding appended
   appended-facts =
       let l = facts .limits in
       let m = st .memory in
       let is = log-appended in
+      let same = appended-lengths in
       record {
         limits = record {
           order-low = l .order-low;
@@ -103,9 +115,9 @@ module _ (st : State) (t : ℕ) (new : List Rec) (o : InOrder st) (g : MayFollow
           limit-low = l .limit-low;
           limit-high = l .limit-high;
           records-few = g .records-few;
-          log-long = rw log-length (g .log-room);
-          index-long = rw (length-with order (l .order-low) (pageTimes page all) (m .index) key-room) (g .index-room);
-          table-long = rw (table-length limit (timeslice t all) (m .table) few-rows (l .table-long)) (l .table-long);
+          log-long = rw (same .log-same) (g .log-room);
+          index-long = rw (same .index-same) (g .index-room);
+          table-long = rw (same .table-same) (l .table-long);
           files-few = l .files-few;
         };
         header-is = take-header (appendedNumbers st t new) (put (m .log) (24 + 24 * st .numbers .records) (recordsBytes new));

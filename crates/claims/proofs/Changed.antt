@@ -1,7 +1,7 @@
 -- Insert, delete and update of a state in order leave one in order: an accepted call appends records that may follow, a
 -- refused one leaves the state as it was. Assumes nothing.
 use Prim.Native.Nat.{ℕ, zero, suc, _+_, _*_, _^_, _≤_, _<_}
-use mathlib.Core.Path.{_≡_, refl, sym, ap, _∙_}
+use mathlib.Core.Path.{_≡_, sym, ap, _∙_}
 use mathlib.Core.List.{List, [], _∷_, _++_}
 use mathlib.Core.Bool.{true, false, not, _&&_}
 use native.Mathlib.Omega.{arith}
@@ -16,7 +16,7 @@ use Rattle.model.specs.Timeslice.{table}
 use Rattle.model.specs.Legal.{legal, lastTime}
 use Rattle.model.specs.Pages.{indexNeed}
 use Rattle.model.specs.Memory.{State, logOf, rowsNow, sound, logLong, indexLong}
-use Rattle.model.specs.Changes.{roomFor, insertQuestions, presentQuestions, insertOf, deleteOf, updateOf}
+use Rattle.model.specs.Changes.{appended, roomFor, insertQuestions, presentQuestions, insertOf, deleteOf, updateOf}
 use Rattle.model.specs.Calls.{Call, CallFits}
 use Rattle.model.proofs.Compare.{and-left, and-right}
 use Rattle.model.proofs.AppendLaws.{last-time-snoc, last-time-update, legal-insertion, legal-deletion, legal-update}
@@ -27,6 +27,7 @@ use Rattle.model.proofs.AuditLaws.{audited-facts}
 use Rattle.claims.proofs.FactLaws.{length-log, rows-now, count-fits}
 use Rattle.claims.proofs.Regions.{asked}
 use Rattle.claims.proofs.Appended.{appended-in-order}
+use Rattle.claims.proofs.Leaving.{either-left}
 
 -- ---- room
 
@@ -145,23 +146,18 @@ module _ (st : State) (o : InOrder st) (t a c : ℕ) (tf : t < 2 ^ 64) (af : a <
 
 -- ---- the calls
 
-pub insert-audited : (st : State) (t a c : ℕ) → InOrder st → CallFits (Call.insert t a c) → InOrder (insertOf st t a c .state)
-unfolding insertOf CallFits
-insert-audited st t a c o f = by (firstNo (insertQuestions st t a)) refl
-  where
-    by : (k : ℕ) → firstNo (insertQuestions st t a) ≡ k → InOrder (insertOf st t a c .state)
-    by zero q =
-        let above = ltb (st .numbers .last) t in
-        let absent = lacks a (rowsNow st) in
-        let free = ltb (st .numbers .live) (st .numbers .limit) in
-        let q1 = asked 0 (sound st) (question 6 above ∷ question 7 absent ∷ question 9 free ∷ roomFor st 1) q in
-        let q6 = asked 5 above (question 7 absent ∷ question 9 free ∷ roomFor st 1) (q1 .1) in
-        let q7 = asked 6 absent (question 9 free ∷ roomFor st 1) (q6 .1) in
-        let q9 = asked 8 free (roomFor st 1) (q7 .1) in
-        rw q
-        (appended-in-order st t (insertion (st .numbers .records) t a c ∷ []) o
-        (insertion-follows st o t a c (f .0) (f .1 .0) (f .1 .1) (ltb-true _ _ (q6 .0)) (q7 .0) (ltb-true _ _ (q9 .0)) (room-of st 1 (q9 .1))))
-    by (suc k) q = rw q o
+pub insert-may-follow : (st : State) (t a c : ℕ) → InOrder st → CallFits (Call.insert t a c) → firstNo (insertQuestions st t a) ≡ 0
+    → MayFollow st t (insertion (st .numbers .records) t a c ∷ [])
+unfolding CallFits
+insert-may-follow st t a c o f q =
+    let above = ltb (st .numbers .last) t in
+    let absent = lacks a (rowsNow st) in
+    let free = ltb (st .numbers .live) (st .numbers .limit) in
+    let q1 = asked 0 (sound st) (question 6 above ∷ question 7 absent ∷ question 9 free ∷ roomFor st 1) q in
+    let q6 = asked 5 above (question 7 absent ∷ question 9 free ∷ roomFor st 1) (q1 .1) in
+    let q7 = asked 6 absent (question 9 free ∷ roomFor st 1) (q6 .1) in
+    let q9 = asked 8 free (roomFor st 1) (q7 .1) in
+    insertion-follows st o t a c (f .0) (f .1 .0) (f .1 .1) (ltb-true _ _ (q6 .0)) (q7 .0) (ltb-true _ _ (q9 .0)) (room-of st 1 (q9 .1))
 
 -- what the questions of delete and update say
 pub present-asked : (st : State) (t a more : ℕ) → firstNo (presentQuestions st t a more) ≡ 0 → (st .numbers .last < t) × ((lacks a (rowsNow st) ≡ false) × RoomFor st more)
@@ -173,26 +169,40 @@ present-asked st t a more q =
     let q8 = asked 7 there (roomFor st more) (q6 .1) in
     (ltb-true _ _ (q6 .0), (not-true (lacks a (rowsNow st)) (q8 .0), room-of st more (q8 .1)))
 
-pub delete-audited : (st : State) (t a : ℕ) → InOrder st → CallFits (Call.delete t a) → InOrder (deleteOf st t a .state)
-unfolding deleteOf CallFits
-delete-audited st t a o f = by (firstNo (presentQuestions st t a 1)) refl
-  where
-    by : (k : ℕ) → firstNo (presentQuestions st t a 1) ≡ k → InOrder (deleteOf st t a .state)
-    by zero q =
-        let h = present-asked st t a 1 q in
-        rw q
-        (appended-in-order st t (deletion (st .numbers .records) t a (countOf a (rowsNow st)) ∷ []) o
-        (deletion-follows st o t a 0 (f .0) (f .1) (omega arith) (h .0) (h .1 .0) (h .1 .1)))
-    by (suc k) q = rw q o
+pub delete-may-follow : (st : State) (t a : ℕ) → InOrder st → CallFits (Call.delete t a) → firstNo (presentQuestions st t a 1) ≡ 0
+    → MayFollow st t (deletion (st .numbers .records) t a (countOf a (rowsNow st)) ∷ [])
+unfolding CallFits
+delete-may-follow st t a o f q =
+    let h = present-asked st t a 1 q in
+    deletion-follows st o t a 0 (f .0) (f .1) (omega arith) (h .0) (h .1 .0) (h .1 .1)
 
-pub update-audited : (st : State) (t a c : ℕ) → InOrder st → CallFits (Call.update t a c) → InOrder (updateOf st t a c .state)
-unfolding updateOf CallFits
-update-audited st t a c o f = by (firstNo (presentQuestions st t a 2)) refl
-  where
-    by : (k : ℕ) → firstNo (presentQuestions st t a 2) ≡ k → InOrder (updateOf st t a c .state)
-    by zero q =
-        let h = present-asked st t a 2 q in
-        rw q
-        (appended-in-order st t (deletion (st .numbers .records) t a (countOf a (rowsNow st)) ∷ insertion (suc (st .numbers .records)) t a c ∷ []) o
-        (update-follows st o t a c (f .0) (f .1 .0) (f .1 .1) (h .0) (h .1 .0) (h .1 .1)))
-    by (suc k) q = rw q o
+pub update-may-follow : (st : State) (t a c : ℕ) → InOrder st → CallFits (Call.update t a c) → firstNo (presentQuestions st t a 2) ≡ 0
+    → MayFollow st t (deletion (st .numbers .records) t a (countOf a (rowsNow st)) ∷ insertion (suc (st .numbers .records)) t a c ∷ [])
+unfolding CallFits
+update-may-follow st t a c o f q =
+    let h = present-asked st t a 2 q in
+    update-follows st o t a c (f .0) (f .1 .0) (f .1 .1) (h .0) (h .1 .0) (h .1 .1)
+
+-- what holds of the state, and wherever records that may follow it were appended, holds of the one that a call leaves
+module _ (P : State → Type 0) (st : State) (o : InOrder st) (stood : P st) (new : (t : ℕ) (rs : List Rec) → MayFollow st t rs → P (appended st t rs)) where
+  pub insert-leaves : (t a c : ℕ) → CallFits (Call.insert t a c) → P (insertOf st t a c .state)
+  unfolding insertOf
+  insert-leaves t a c f = either-left P (firstNo (insertQuestions st t a)) st _ stood (λ q. new t _ (insert-may-follow st t a c o f q))
+
+  pub delete-leaves : (t a : ℕ) → CallFits (Call.delete t a) → P (deleteOf st t a .state)
+  unfolding deleteOf
+  delete-leaves t a f = either-left P (firstNo (presentQuestions st t a 1)) st _ stood (λ q. new t _ (delete-may-follow st t a o f q))
+
+  pub update-leaves : (t a c : ℕ) → CallFits (Call.update t a c) → P (updateOf st t a c .state)
+  unfolding updateOf
+  update-leaves t a c f = either-left P (firstNo (presentQuestions st t a 2)) st _ stood (λ q. new t _ (update-may-follow st t a c o f q))
+
+module _ (st : State) where
+  pub insert-audited : (t a c : ℕ) → InOrder st → CallFits (Call.insert t a c) → InOrder (insertOf st t a c .state)
+  insert-audited t a c o = insert-leaves (λ x. InOrder x) st o o (λ t rs. appended-in-order st t rs o) t a c
+
+  pub delete-audited : (t a : ℕ) → InOrder st → CallFits (Call.delete t a) → InOrder (deleteOf st t a .state)
+  delete-audited t a o = delete-leaves (λ x. InOrder x) st o o (λ t rs. appended-in-order st t rs o) t a
+
+  pub update-audited : (t a c : ℕ) → InOrder st → CallFits (Call.update t a c) → InOrder (updateOf st t a c .state)
+  update-audited t a c o = update-leaves (λ x. InOrder x) st o o (λ t rs. appended-in-order st t rs o) t a c

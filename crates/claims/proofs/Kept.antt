@@ -20,7 +20,8 @@ use Rattle.model.proofs.Compare.{and-left, and-right}
 use Rattle.model.specs.Facts.{FileIs, FilesAre, AuditedFacts, InOrder}
 use Rattle.model.proofs.AuditLaws.{audited-facts, audited-of-facts, capacity-entries, capacity-areas}
 use Rattle.model.proofs.FileLaws.{length-files-in, length-staying}
-use Rattle.claims.proofs.Regions.{asked, entries-put, entries-of-lendable}
+use Rattle.claims.proofs.Regions.{SameLengths, asked, entries-put, entries-of-lendable}
+use Rattle.claims.proofs.Leaving.{either-left}
 use Rattle.claims.proofs.FileLists.{FilesFit, files-fit, files-fit-append, no-files-fit, entries-of-files, bytes-of-files, length-areas, files-back}
 use Rattle.claims.proofs.FilesKept.{length-file-in, files-with, files-staying, rest-back}
 
@@ -80,6 +81,9 @@ module _ (st : State) (o : InOrder st) (gs : List File) (j : ℕ)
       let more : length all * (8 * R) ≤ slots * (8 * R) = mul-le-mul-right (8 * R) fit in
       length-put (st .memory .areas) 0 (areasBytes all)
       (omega (arith, length-areas R all all-fit, mul-comm (8 * R) (length all), mul-comm (8 * R) slots))
+
+  pub files-lengths : SameLengths (st .memory) (other .memory)
+  files-lengths = record { log-same = refl; index-same = refl; table-same = refl; entries-same = entries-long; areas-same = areas-long }
 
   slots-same : capacityOf (st .numbers .limit) (other .memory) ≡ capacityOf (st .numbers .limit) (st .memory)
   slots-same = rw (entries-long, areas-long)
@@ -198,13 +202,12 @@ module _ (st : State) (o : InOrder st) (t : ℕ) (h : KeepAsked st t) where
   pub kept-files : filesOf kept ≡ files
   kept-files = rw (append-nil files, one-more) at (files-now st o files 0 files-are (omega (arith, one-more)) (omega (arith, one-more, h .room)))
 
+  pub kept-lengths : SameLengths (st .memory) (kept .memory)
+  kept-lengths = rw (append-nil files) at (files-lengths st o files 0 files-are (omega (arith, one-more)) (omega (arith, one-more, h .room)))
+
 pub keep-audited : (st : State) (t : ℕ) → InOrder st → InOrder (keepOf st t .state)
 unfolding keepOf
-keep-audited st t o = by (firstNo (keepQuestions st t)) refl
-  where
-    by : (k : ℕ) → firstNo (keepQuestions st t) ≡ k → InOrder (keepOf st t .state)
-    by zero q = rw q (kept-in-order st o t (keep-asked st t q))
-    by (suc k) q = rw q o
+keep-audited st t o = either-left (λ x. InOrder x) (firstNo (keepQuestions st t)) st _ o (λ q. kept-in-order st o t (keep-asked st t q))
 
 -- ---- drop
 
@@ -230,10 +233,10 @@ module _ (stays : Entry → Bool) (st : State) (o : InOrder st) where
   reduced-files =
       files-now st o rest (st .numbers .files - length rest) rest-are (omega (arith, no-more)) (omega (arith, no-more, facts-now .limits .files-few))
 
+  pub reduced-lengths : SameLengths (st .memory) (reduced stays st .memory)
+  reduced-lengths =
+      files-lengths st o rest (st .numbers .files - length rest) rest-are (omega (arith, no-more)) (omega (arith, no-more, facts-now .limits .files-few))
+
 pub drop-audited : (st : State) (t : ℕ) → InOrder st → InOrder (dropOf st t .state)
 unfolding dropOf
-drop-audited st t o = by (firstNo (dropQuestions st t)) refl
-  where
-    by : (k : ℕ) → firstNo (dropQuestions st t) ≡ k → InOrder (dropOf st t .state)
-    by zero q = rw q (reduced-in-order (notOf t) st o)
-    by (suc k) q = rw q o
+drop-audited st t o = either-left (λ x. InOrder x) (firstNo (dropQuestions st t)) st _ o (λ q. reduced-in-order (notOf t) st o)

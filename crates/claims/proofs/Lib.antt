@@ -3,6 +3,7 @@ pub mod IndexWords
 pub mod Regions
 pub mod Started
 pub mod Opened
+pub mod Leaving
 pub mod Appended
 pub mod Changed
 pub mod SecondDemands
@@ -10,6 +11,7 @@ pub mod FileLists
 pub mod FilesKept
 pub mod Kept
 pub mod Lists
+pub mod Lengths
 pub mod FileFronts
 pub mod Exact
 pub mod NetChanges

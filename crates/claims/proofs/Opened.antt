@@ -9,7 +9,7 @@ use lib.Dec.{leb, eqb}
 use borrow.Author.Tests.{leb-true, eqb-true}
 use Rattle.codec.proofs.Numbers.{number-lt, are-bytes-put, are-bytes-drop}
 use Rattle.model.specs.Answers.{Outcome, answers, refuses, refusesAt, question, firstNo}
-use Rattle.model.specs.Settings.{orderInRange, pageSizeInRange, rowLimitInRange, recordsInRange}
+use Rattle.model.specs.Settings.{orderInRange, pageSizeInRange, rowLimitInRange, SettingsFit, recordsInRange}
 use Rattle.model.specs.Records.{headerOrder, headerPage, headerLimit, headerRecords, headerLast}
 use Rattle.model.specs.Rows.{tableBytes}
 use Rattle.model.specs.Timeslice.{timeslice}
@@ -21,6 +21,7 @@ use Rattle.model.specs.Starts.{openQuestions, writtenLog, wellWritten, openedMe
 use Rattle.model.specs.Files.{filesIn}
 use Rattle.model.specs.Calls.{Start, StartFits, begun, Accepted}
 use Rattle.model.proofs.Compare.{and-left, and-right}
+use Rattle.model.proofs.SettingsLaws.{settings-fit}
 use Rattle.model.proofs.PageLaws.{length-page-times}
 use Rattle.model.proofs.RecordLaws.{length-records}
 use Rattle.model.proofs.TimeLaws.{timeslice-rows}
@@ -32,8 +33,8 @@ use Rattle.rows.proofs.TableBytes.{are-bytes-table}
 use Rattle.model.specs.Facts.{FilesAre, AuditedFacts, InOrder}
 use Rattle.model.proofs.AuditLaws.{audited-of-facts}
 use Rattle.claims.proofs.IndexWords.{below-with-tree, keys-below}
-use Rattle.claims.proofs.Regions.{asked, table-front, table-length, tree-again, emptied-rest, emptied-fits}
-use Rattle.claims.proofs.Started.{SettingsFit, settings-fit, fresh-state, fresh-audited}
+use Rattle.claims.proofs.Regions.{SameLengths, asked, table-front, table-length, tree-again, length-emptied, emptied-rest, emptied-fits}
+use Rattle.claims.proofs.Started.{fresh-state, fresh-audited}
 
 module _ (m : Memory) where
   -- the state that an accepted opening leaves
@@ -127,12 +128,26 @@ module _ (m : Memory) where
     key-room : indexWords order (length (pageTimes page (writtenLog m))) ≤ length (m .index)
     key-room = rw key-count (open-settings .1 .1 .index-long)
 
+    pub open-lengths : SameLengths m (openedMemory m)
+    unfolding openedMemory
+    open-lengths =
+        let s = open-settings .1 .0 in
+        let r = open-settings .1 .1 in
+        record {
+          log-same = refl;
+          index-same = length-with order (s .order-low) (pageTimes page (writtenLog m)) (m .index) key-room;
+          table-same = table-length limit (timeslice (headerLast (m .log)) (writtenLog m)) (m .table) few-rows (r .table-long);
+          entries-same = length-emptied limit m;
+          areas-same = refl;
+        }
+
     open-facts : AuditedFacts opened
     unfolding openedMemory openedNumbers filesIn FilesAre
     open-facts =
         let f = open-settings in
         let s = f .1 .0 in
         let r = f .1 .1 in
+        let same = open-lengths in
         let b = begins-log-true (m .log) (f .0) in
         let keys = pageTimes page (writtenLog m) in
         let rows = timeslice (headerLast (m .log)) (writtenLog m) in
@@ -146,8 +161,8 @@ module _ (m : Memory) where
             limit-high = s .limit-high;
             records-few = r .records-few;
             log-long = r .log-long;
-            index-long = rw (length-with order (s .order-low) keys (m .index) key-room) (r .index-long);
-            table-long = rw (table-length limit rows (m .table) few-rows (r .table-long)) (r .table-long);
+            index-long = rw (same .index-same) (r .index-long);
+            table-long = rw (same .table-same) (r .table-long);
             files-few = omega arith;
           };
           header-is = header-of-fields (openedNumbers m) (m .log) (l .log-bytes) (b .0)

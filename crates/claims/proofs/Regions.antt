@@ -35,6 +35,16 @@ pub none-asked : firstNo [] ≡ 0
 unfolding firstNo
 none-asked = refl
 
+-- ---- lengths
+
+-- each region is as long as it was
+pub record SameLengths (m m' : Memory) : Type 0 where
+  pub log-same : length (m' .log) ≡ length (m .log)
+  pub index-same : length (m' .index) ≡ length (m .index)
+  pub table-same : length (m' .table) ≡ length (m .table)
+  pub entries-same : length (m' .catalogue) ≡ length (m .catalogue)
+  pub areas-same : length (m' .areas) ≡ length (m .areas)
+
 -- ---- the table
 
 module _ (R : ℕ) (T : List Row) (xs : List ℕ) (few : length T ≤ R) where

@@ -2,28 +2,29 @@
 use Prim.Native.Nat.{ℕ, zero, suc, _-_, _*_, _^_, _≤_, _<_}
 use mathlib.Core.Path.{_≡_, refl, ap, _∙_}
 use mathlib.Core.List.{[], _∷_}
-use mathlib.Core.Bool.{Bool, true, _&&_}
+use mathlib.Core.Bool.{Bool, _&&_}
 use native.Mathlib.Omega.{arith}
 use native.Mathlib.Nat.{zero-mul}
 use lib.ListN.{length}
 use lib.Dec.{leb}
 use borrow.Author.Tests.{leb-true}
-use Rattle.codec.specs.Parts.{zeros, put}
+use Rattle.codec.specs.Parts.{zeros}
 use Rattle.codec.proofs.Numbers.{are-bytes-put, are-bytes-zeros}
 use Rattle.codec.proofs.PartLaws.{length-put}
 use Rattle.model.specs.Answers.{Outcome, answers, refuses, question, firstNo}
-use Rattle.model.specs.Settings.{orderInRange, pageSizeInRange, rowLimitInRange}
+use Rattle.model.specs.Settings.{orderInRange, pageSizeInRange, rowLimitInRange, SettingsFit}
 use Rattle.model.specs.Records.{records, headerBytes}
 use Rattle.model.specs.Timeslice.{table, upTo, timeslice}
 use Rattle.model.specs.Legal.{legalAfter, lastFrom}
 use Rattle.model.specs.Numbering.{nodes, nodeWord}
 use Rattle.model.specs.Pages.{pageTimesFrom}
 use Rattle.model.specs.Tree.{indexWords}
-use Rattle.model.specs.Memory.{Memory, state, Lendable, tableLong, capacityOf}
+use Rattle.model.specs.Memory.{Memory, state, Lendable, tableLong}
 use Rattle.model.specs.Starts.{freshQuestions, freshNumbers, freshMemory, freshOf}
 use Rattle.model.specs.Files.{filesIn}
 use Rattle.model.specs.Calls.{Start, StartFits, Accepted}
 use Rattle.model.proofs.Compare.{and-left, and-right}
+use Rattle.model.proofs.SettingsLaws.{settings-fit}
 use Rattle.model.proofs.PageCounts.{pages-zero}
 use Rattle.tree.proofs.Leaves.{leaves-none}
 use Rattle.tree.proofs.Written.{packed-with}
@@ -32,30 +33,7 @@ use Rattle.log.proofs.HeaderLaws.{length-header-bytes, are-bytes-header, take-h
 use Rattle.rows.proofs.TableBytes.{table-bytes-empty}
 use Rattle.model.specs.Facts.{FilesAre, AuditedFacts, InOrder}
 use Rattle.model.proofs.AuditLaws.{audited-of-facts}
-use Rattle.claims.proofs.Regions.{asked, table-front, table-length, emptied-rest, emptied-fits}
-
--- ---- settings
-
--- the settings' questions answered yes, and those behind them
-pub record SettingsFit (d N R : ℕ) : Type 0 where
-  pub order-low : 2 ≤ d
-  pub order-high : d ≤ 64
-  pub page-low : 2 ≤ N
-  pub page-high : N ≤ 64
-  pub limit-low : 1 ≤ R
-  pub limit-high : R ≤ 1024
-
-pub settings-fit : (d N R : ℕ) → orderInRange d ≡ true → pageSizeInRange N ≡ true → rowLimitInRange R ≡ true → SettingsFit d N R
-unfolding orderInRange pageSizeInRange rowLimitInRange
-settings-fit d N R a b c =
-    record {
-      order-low = leb-true _ _ (and-left (leb 2 d) (leb d 64) a);
-      order-high = leb-true _ _ (and-right (leb 2 d) (leb d 64) a);
-      page-low = leb-true _ _ (and-left (leb 2 N) (leb N 64) b);
-      page-high = leb-true _ _ (and-right (leb 2 N) (leb N 64) b);
-      limit-low = leb-true _ _ (and-left (leb 1 R) (leb R 1024) c);
-      limit-high = leb-true _ _ (and-right (leb 1 R) (leb R 1024) c);
-    }
+use Rattle.claims.proofs.Regions.{SameLengths, asked, table-front, table-length, length-emptied, emptied-rest, emptied-fits}
 
 -- no key takes no word
 no-words : (d : ℕ) → 2 ≤ d → indexWords d 0 ≡ 0
@@ -91,15 +69,25 @@ module _ (d N R : ℕ) (m : Memory) where
         let table = leb (8 * R) (length (m .table)) in
         (settings-fit d N R (a .0) (b .0) (c .0), (leb-true _ _ (and-left log table (e .0)), leb-true _ _ (and-right log table (e .0))))
 
+    pub fresh-lengths : SameLengths m (freshMemory d N R m)
+    unfolding freshMemory
+    fresh-lengths =
+        let room = fresh-settings .1 in
+        record {
+          log-same = length-put (m .log) 0 (headerBytes (freshNumbers d N R)) (omega (arith, room .0, length-header-bytes (freshNumbers d N R)));
+          index-same = refl;
+          table-same = rw (← table-bytes-empty R) (table-length R [] (m .table) (omega arith) (room .1));
+          entries-same = length-emptied R m;
+          areas-same = refl;
+        }
+
     fresh-facts : AuditedFacts (state (freshNumbers d N R) (freshMemory d N R m))
     unfolding freshMemory records legalAfter lastFrom timeslice table upTo pageTimesFrom filesIn FilesAre
     fresh-facts =
         let f = fresh-settings in
         let s = f .0 in
         let two = s .order-low in
-        let cap = capacityOf R (freshMemory d N R m) in
-        let h = length-header-bytes (freshNumbers d N R) in
-        let logs : length (put (m .log) 0 (headerBytes (freshNumbers d N R))) ≡ length (m .log) = length-put (m .log) 0 (headerBytes (freshNumbers d N R)) (omega (arith, f .1 .0)) in
+        let same = fresh-lengths in
         let none = table-bytes-empty R in
         record {
           limits = record {
@@ -110,9 +98,9 @@ module _ (d N R : ℕ) (m : Memory) where
             limit-low = s .limit-low;
             limit-high = s .limit-high;
             records-few = omega arith;
-            log-long = rw logs (f .1 .0);
+            log-long = rw (same .log-same) (f .1 .0);
             index-long = rw (pages-zero N (omega (arith, s .page-low)), no-words d two) (omega arith);
-            table-long = rw (← none, table-length R [] (m .table) (omega arith) (f .1 .1)) (f .1 .1);
+            table-long = rw (same .table-same) (f .1 .1);
             files-few = omega arith;
           };
           header-is = take-header (freshNumbers d N R) (m .log);

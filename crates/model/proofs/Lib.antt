@@ -1,4 +1,5 @@
 pub mod Compare
+pub mod SettingsLaws
 pub mod RowLaws
 pub mod RowSets
 pub mod SliceLaws

@@ -1,0 +1,13 @@
+-- A call that may change the store leaves it as it was, or as the call makes it where no question is answered no. Assumes
+-- nothing.
+use Prim.Native.Nat.{ℕ, zero, suc}
+use mathlib.Core.Path.{_≡_, refl}
+use Rattle.model.specs.Answers.{answers, unlessNo}
+use Rattle.model.specs.Memory.{State}
+use Rattle.model.specs.Starts.{after}
+use Rattle.model.specs.Changes.{unchanged}
+
+-- what holds of the state that stood, and of the new one where no question is answered no, holds of the one left
+pub either-left : (P : State → Type 0) (q : ℕ) (st done : State) → P st → (q ≡ 0 → P done) → P (unlessNo q (after (answers tt) done) (unchanged st) .state)
+either-left P zero st done stood new = new refl
+either-left P (suc q) st done stood new = stood

@@ -1,0 +1,4 @@
+pub mod Answered
+pub mod Sufficing
+pub mod NoLess
+pub mod Cases

@@ -1,0 +1,154 @@
+-- Where the lengths answered are lent, no call is refused for want of memory: of each question that asks for memory the answer is
+-- yes, and a refusal by any other is none of these. Assumes nothing.
+use Prim.Native.Nat.{ℕ, zero, suc, _+_, _*_, _/_, _≤_, _<_}
+use mathlib.Core.Path.{_≡_, refl, sym, ap, _∙_}
+use mathlib.Core.List.{List, [], _∷_}
+use mathlib.Core.Bool.{Bool, true, false, cond, _&&_, false≢true}
+use native.Mathlib.Omega.{arith}
+use native.Mathlib.Nat.{le-div-iff-mul-le, mul-comm}
+use lib.ListN.{length}
+use lib.Dec.{leb}
+use borrow.Author.Tests.{le-leb, lt-ltb}
+use Rattle.model.specs.Answers.{Outcome, answers, refuses, refusesAt, Question, firstNo, unlessNo, TableSaid, OutsetSaid}
+use Rattle.model.specs.Settings.{recordsInRange}
+use Rattle.model.specs.Records.{headerOrder, headerPage, headerLimit, headerRecords}
+use Rattle.model.specs.Pages.{indexNeed}
+use Rattle.model.specs.Memory.{Memory, State, capacity, capacityOf, logLong, indexLong, tableLong}
+use Rattle.model.specs.Starts.{After, after, notStarted, freshOf, openQuestions, wellWritten, openOf}
+use Rattle.model.specs.Changes.{unchanged, roomFor, insertQuestions, presentQuestions, insertOf, deleteOf, updateOf}
+use Rattle.model.specs.Queries.{Written, Viewed, Netted, timeQuestions, tableQuestions, netQuestions, positionOf, tableOf, viewOf, netOf}
+use Rattle.model.specs.Files.{keepQuestions, keepOf, dropQuestions, dropOf}
+use Rattle.model.specs.Promises.{refusedBy}
+use Rattle.model.specs.Calls.{Call, answerOf, Accepted}
+use Rattle.model.proofs.Compare.{and-both}
+use Rattle.pages.proofs.PagedLaws.{index-need-mono}
+use Rattle.lending.specs.declared.Lengths.{Lengths}
+use Rattle.lending.specs.Lengths.{lengthsFor, lengthsOf}
+use Rattle.lending.specs.Enough.{Enough, SettingsAre, HeaderSays, lacking, saidLacking, Within, EnoughForCall, EnoughToStart}
+use Rattle.lending.proofs.Answered.{Answered, answered}
+
+-- ---- questions that ask for no memory, or are answered yes
+
+-- a no to it is no want of memory
+abbrev Harmless : ℕ → Bool → Type 0
+Harmless k b = (b ≡ false → lacking {A = Unit} (refuses k) ≡ false)
+
+unfoldable Supplied : List Question → Type 0
+Supplied [] = Unit
+Supplied (q ∷ qs) = Harmless (q .number) (q .yes) × Supplied qs
+
+supplied : (A : Type 0) (qs : List Question) → Supplied qs → lacking {A = A} (refuses (firstNo qs)) ≡ false
+unfolding Supplied firstNo lacking refusedBy
+supplied A [] h = refl
+supplied A (q ∷ qs) h = by (q .yes) refl (supplied A qs (h .1))
+  where
+    by : (b : Bool) → q .yes ≡ b → lacking {A = A} (refuses (firstNo qs)) ≡ false → lacking {A = A} (refuses (firstNo (q ∷ qs))) ≡ false
+    by true e ih = rw e ih
+    by false e ih = rw e (h .0 e)
+
+certain : (k : ℕ) (b : Bool) → b ≡ true → Harmless k b
+certain k b t f = absurd (false≢true (sym f ∙ t))
+
+-- what is done lacks nothing, nor does what is refused by such questions
+unless : {B : Type 0} (lacks : B → Bool) (k : ℕ) (done : B) (refused : ℕ → B) → lacks done ≡ false → lacks (refused k) ≡ false → lacks (unlessNo k done refused) ≡ false
+unless lacks zero done refused h g = h
+unless lacks (suc k) done refused h g = g
+
+-- ---- the five regions
+
+-- the capacity is the most files that the three bounds let be
+pub within-capacity : (R entries bytes k : ℕ) → 1 ≤ R → k ≤ 16 → k ≤ entries → 8 * R * k ≤ bytes → k ≤ capacity R entries bytes
+unfolding capacity
+within-capacity R entries bytes k some few lent long =
+    let whole : k ≤ bytes / (8 * R) = le-div-iff-mul-le {k = 8 * R} {x = k} {y = bytes} (omega arith) .1 (omega (arith, mul-comm (8 * R) k)) in
+    omega arith
+
+module _ (d N R n f : ℕ) (l : Lengths) (a : Answered d N R n f l) where
+  -- an index for n records serves fewer
+  pub index-serves : (k words : ℕ) → k ≤ n → indexNeed d N n ≤ words → indexNeed d N k ≤ words
+  index-serves k words h g =
+      omega (arith, index-need-mono d N k n (a .settings .order-low) (omega (arith, a .settings .page-low)) h)
+
+  module _ (st : State) (s : SettingsAre d N R (st .numbers)) (e : Enough (lengthsFor d N R n f) (st .memory)) where
+    room : (more : ℕ) → st .numbers .records + more ≤ n → Supplied (roomFor st more)
+    unfolding Supplied recordsInRange logLong indexLong
+    room more h =
+        let k : ℕ = st .numbers .records + more in
+        let same : indexNeed (st .numbers .order) (st .numbers .page) k ≡ indexNeed d N k = cc (s .order-is, s .page-is) in
+        let index : indexNeed (st .numbers .order) (st .numbers .page) k ≤ length (st .memory .index) = rw same (index-serves k _ h (e .index-long)) in
+        (certain 10 _ (and-both (le-leb k 65536 (omega (arith, a .records-few))) (le-leb (24 + 24 * k) _ (omega (arith, e .log-long)))),
+        (certain 11 _ (le-leb _ _ index), tt))
+
+    free : st .numbers .files + 1 ≤ f → st .numbers .files < capacityOf (st .numbers .limit) (st .memory)
+    free h =
+        let m = st .memory in
+        let all = within-capacity R (length (m .catalogue)) (length (m .areas)) f (a .settings .limit-low) (a .files-few) (e .entries-long) (e .areas-long) in
+        let same : capacityOf (st .numbers .limit) m ≡ capacityOf R m = ap (λ (r : ℕ). capacityOf r m) (s .limit-is) in
+        omega arith
+
+    call : (c : Call) → Within n f (lengthsFor d N R n f) st c → saidLacking (answerOf st c) ≡ false
+    unfolding Within saidLacking answerOf lacking refusedBy Supplied insertOf deleteOf updateOf positionOf tableOf viewOf netOf keepOf dropOf
+    call (Call.insert t x c) h =
+        unless (λ (r : After). lacking (r .outcome)) (firstNo (insertQuestions st t x)) _ (unchanged st) refl
+        (supplied Unit (insertQuestions st t x) ((λ _. refl), ((λ _. refl), ((λ _. refl), ((λ _. refl), room 1 h)))))
+    call (Call.delete t x) h =
+        unless (λ (r : After). lacking (r .outcome)) (firstNo (presentQuestions st t x 1)) _ (unchanged st) refl
+        (supplied Unit (presentQuestions st t x 1) ((λ _. refl), ((λ _. refl), ((λ _. refl), room 1 h))))
+    call (Call.update t x c) h =
+        unless (λ (r : After). lacking (r .outcome)) (firstNo (presentQuestions st t x 2)) _ (unchanged st) refl
+        (supplied Unit (presentQuestions st t x 2) ((λ _. refl), ((λ _. refl), ((λ _. refl), room 2 h))))
+    call (Call.position t) h =
+        unless (λ (r : Outcome ℕ). lacking r) (firstNo (timeQuestions st t)) _ refuses refl (supplied ℕ (timeQuestions st t) ((λ _. refl), ((λ _. refl), tt)))
+    call (Call.table t out) h =
+        unless (λ (r : Written TableSaid). lacking (r .outcome)) (firstNo (tableQuestions st t out)) _ _ refl
+        (supplied TableSaid (tableQuestions st t out) ((λ _. refl), ((λ _. refl), (certain 13 _ (le-leb (8 * st .numbers .limit) (length out) (omega (arith, s .limit-is))), tt))))
+    call (Call.view t) h =
+        unless (λ (r : Viewed). lacking (r .outcome)) (firstNo (timeQuestions st t)) _ _ refl (supplied OutsetSaid (timeQuestions st t) ((λ _. refl), ((λ _. refl), tt)))
+    call (Call.netChange x y out work) h =
+        unless (λ (r : Netted). lacking (r .outcome)) (firstNo (netQuestions st x y out work)) _ _ refl
+        (supplied ℕ (netQuestions st x y out work) ((λ _. refl), ((λ _. refl), ((λ _. refl),
+        (certain 13 _ (and-both (le-leb (24 * st .numbers .limit) (length out) (omega (arith, s .limit-is, h .0))) (le-leb (16 * st .numbers .limit) (length work) (omega (arith, s .limit-is, h .1)))), tt)))))
+    call (Call.keep t) h =
+        unless (λ (r : After). lacking (r .outcome)) (firstNo (keepQuestions st t)) _ (unchanged st) refl
+        (supplied Unit (keepQuestions st t) ((λ _. refl), ((λ _. refl), ((λ _. refl), (certain 15 _ (lt-ltb (st .numbers .files) (capacityOf (st .numbers .limit) (st .memory)) (free h)), tt)))))
+    call (Call.drop t) h =
+        unless (λ (r : After). lacking (r .outcome)) (firstNo (dropQuestions st t)) _ (unchanged st) refl (supplied Unit (dropQuestions st t) ((λ _. refl), ((λ _. refl), tt)))
+    call Call.audit h = refl
+
+  -- ---- starts
+
+  fresh-accepted : (m : Memory) → Enough (lengthsFor d N R n f) m → Accepted (freshOf d N R m)
+  unfolding freshOf firstNo tableLong
+  fresh-accepted m e =
+      let space : (leb 24 (length (m .log)) && leb (8 * R) (length (m .table))) ≡ true =
+      and-both (le-leb 24 (length (m .log)) (omega (arith, e .log-long))) (le-leb (8 * R) (length (m .table)) (omega (arith, e .table-long))) in
+      rw (a .go-on, space)
+
+  open-supplied : (m : Memory) (k : ℕ) → k ≤ n → HeaderSays d N R k (m .log) → Enough (lengthsFor d N R n f) m → lacking (openOf m .outcome) ≡ false
+  unfolding openOf lacking refusedBy Supplied recordsInRange logLong indexLong tableLong
+  open-supplied m k h says e =
+      unless (λ (r : After). lacking (r .outcome)) (firstNo (openQuestions m)) _ (notStarted m) (either (wellWritten m) _ _ _)
+      (supplied Unit (openQuestions m) ((λ _. refl), ((λ _. refl), ((λ _. refl), ((λ _. refl), (certain 5 _ space, tt))))))
+    where
+      -- accepted, or refused by 17
+      either : (b : Bool) (r : ℕ) (x y : State) → lacking (cond b (after (answers tt) x) (after (refusesAt 17 r) y) .outcome) ≡ false
+      either true r x y = refl
+      either false r x y = refl
+
+      space : (leb (headerRecords (m .log)) 65536 && leb (24 + 24 * headerRecords (m .log)) (length (m .log))
+          && leb (indexNeed (headerOrder (m .log)) (headerPage (m .log)) (headerRecords (m .log))) (length (m .index))
+          && leb (8 * headerLimit (m .log)) (length (m .table))) ≡ true
+      space =
+          rw (says .order-is, says .page-is, says .limit-is, says .records-is)
+          (and-both (and-both (and-both (le-leb k 65536 (omega (arith, a .records-few))) (le-leb (24 + 24 * k) (length (m .log)) (omega (arith, e .log-long))))
+          (le-leb (indexNeed d N k) (length (m .index)) (index-serves k _ h (e .index-long)))) (le-leb (8 * R) (length (m .table)) (omega (arith, e .table-long))))
+
+-- ---- the theorems
+
+pub enough-for-call : (d N R n f : ℕ) (l : Lengths) → lengthsOf d N R n f ≡ answers l → EnoughForCall d N R n f l
+enough-for-call d N R n f l e = let a = answered d N R n f l e in rw (a .lengths-are) (call d N R n f l a)
+
+pub enough-to-start : (d N R n f : ℕ) (l : Lengths) → lengthsOf d N R n f ≡ answers l → EnoughToStart d N R n l
+enough-to-start d N R n f l e =
+    let a = answered d N R n f l e in
+    rw (a .lengths-are) (record { fresh-store = fresh-accepted d N R n f l a; opened = open-supplied d N R n f l a })
