@@ -1,0 +1,114 @@
+// What the listing program does (01, "One log by hand"): it reads a log from standard input and prints a line for each different
+// request time: the time, its page position, E or L for the earlier or later outset, and the rows of its table.
+mod input;
+mod output;
+
+ghost use Prim.Native.Nat.{_+_, _≤_};
+ghost use lib.ListN.{length};
+use catalogue::Catalogue;
+use model::Numbers;
+use model::PositionAnswer;
+use model::RecordNumber;
+use model::Refusal;
+use model::TableAnswer;
+use model::Verdict;
+use output::Room;
+use reader::Step;
+
+// No count file is kept, and no entry is lent.
+fn no_files() -> Catalogue {
+    Catalogue {
+        entries: [catalogue::no_entry(); 16],
+        lent: 0,
+    }
+}
+
+// Gathers the line for the time t, unless it was the last one listed.
+fn list_time(
+    s: Numbers,
+    log: &[u8],
+    index: &[u64],
+    current: &[u8],
+    t: u64,
+    last: u64,
+    out: &mut [u8],
+    buffer: &mut [u8],
+    at: usize,
+) -> usize
+    requires { ⌜ at + 65 ≤ length (now buffer) ⌝ }
+    ensures { λ r. ⌜ r ≤ at + 65 ⌝ }
+{
+    if t == last {
+        return at;
+    }
+    let PositionAnswer::At(position) = tables::position(s, log, index, current, 0, 0, t) else {
+        return at;
+    };
+    let none = &current[0..0];
+    let TableAnswer::Table {
+        rows,
+        side,
+        distance: _,
+    } = tables::table(s, log, index, current, no_files(), none, t, out)
+    else {
+        return at;
+    };
+    lines::put_line(buffer, at, t, position.page.0, side, rows)
+}
+
+// A line for each different time among the records.
+fn list(s: Numbers, log: &[u8], index: &[u64], current: &[u8], out: &mut [u8], buffer: &mut [u8]) -> u8
+    requires { ⌜ 65 ≤ length (now buffer) ⌝ }
+    ensures { λ r. ⌜ r ≤ 3 ⌝ }
+{
+    let mut at = lines::gather(buffer, 0, b"time page outset rows\n");
+    let mut last: u64 = 0;
+    let mut k: u32 = 0;
+    while k < 65536 {
+        let Step::Next(r) = reader::record_of(log, RecordNumber(k)) else {
+            return output::finish(buffer, at, output::LISTED);
+        };
+        let Room::At(room) = output::make_room(buffer, at) else {
+            return output::fail();
+        };
+        at = list_time(s, log, index, current, r.time, last, out, buffer, room);
+        last = r.time;
+        k += 1;
+    }
+    output::finish(buffer, at, output::LISTED)
+}
+
+fn print_listing(s: Numbers, log: &[u8], index: &[u64], current: &[u8]) -> u8
+    ensures { λ r. ⌜ r ≤ 3 ⌝ }
+{
+    let mut out = [0u8; 8192];
+    let mut buffer = [0u8; 8192];
+    list(s, log, index, current, &mut out, &mut buffer)
+}
+
+fn print_refused(why: Refusal) -> u8
+    ensures { λ r. ⌜ r ≤ 3 ⌝ }
+{
+    let mut buffer = [0u8; 64];
+    let at = lines::put_refused(&mut buffer, 0, answers::question(why));
+    output::finish(&buffer, at, output::REFUSED)
+}
+
+// The status that the program is to end with.
+#[no_mangle]
+pub extern "C" fn yk_list() -> u8
+    ensures { λ r. ⌜ r ≤ 3 ⌝ }
+{
+    let mut log = [0u8; 65536];
+    let mut index = [0u64; 2729];
+    let mut current = [0u8; 8192];
+    if input::read_log(&mut log) {} else {
+        return input::fail();
+    }
+    let started = opening::open(&log, &mut index, &mut current, 0, 0);
+    let verdict = started.verdict;
+    match verdict {
+        Verdict::Refused(why) => print_refused(why),
+        Verdict::Accepted => print_listing(started.numbers, &log, &index, &current),
+    }
+}
