@@ -17,7 +17,8 @@ refused-leaves zero st done e = absurd (false≢true e)
 refused-leaves (suc q) st done e = refl
 
 -- what holds of the state that stood, and of the new one where no question is answered no, holds of the one left
-pub either-left : (P : State → Type 0) (q : ℕ) (st done : State) → P st → (q ≡ 0 → P done) → P (unlessNo q (after (answers tt) done) (unchanged st) .state)
+pub either-left : (P : State → Type 0) (q : ℕ) (st done : State) → P st → (q ≡ 0 → P done)
+    → P (unlessNo q (after (answers tt) done) (unchanged st) .state)
 either-left P zero st done stood new = new refl
 either-left P (suc q) st done stood new = stood
 
