@@ -101,8 +101,10 @@ module _ (d N R n f : ℕ) (l : Lengths) (a : Answered d N R n f l) where
     index-short s long h =
         let k : ℕ = st .numbers .records + more in
         let same : indexNeed (st .numbers .order) (st .numbers .page) k ≡ indexNeed d N n = cc (s .order-is, s .page-is) in
-        rw (and-both (le-leb k 65536 (omega (arith, a .records-few))) (le-leb (24 + 24 * k) (length (st .memory .log)) (omega arith)),
-        lt-leb (indexNeed (st .numbers .order) (st .numbers .page) k) (length (st .memory .index)) (omega arith))
+        rw (
+          and-both (le-leb k 65536 (omega (arith, a .records-few))) (le-leb (24 + 24 * k) (length (st .memory .log)) (omega arith)),
+          lt-leb (indexNeed (st .numbers .order) (st .numbers .page) k) (length (st .memory .index)) (omega arith),
+        )
 
   module _ (st : State) (s : SettingsAre d N R (st .numbers)) (first : sound st ≡ true) where
     keep-short : (t : ℕ) → st .numbers .files + 1 ≡ f → 0 < t → t ≤ st .numbers .last → isKept t (filesOf st) ≡ false
@@ -112,8 +114,13 @@ module _ (d N R n f : ℕ) (l : Lengths) (a : Answered d N R n f l) where
         let m = st .memory in
         let full : capacityOf R m < f = short-capacity R (length (m .catalogue)) (length (m .areas)) f (a .settings .limit-low) h in
         let same : capacityOf (st .numbers .limit) m ≡ capacityOf R m = ap (λ (r : ℕ). capacityOf r m) (s .limit-is) in
-        rw (first, le-leb t (st .numbers .last) held, ne-eqb t 0 (λ e. omega arith), new,
-        le-ltb (st .numbers .files) (capacityOf (st .numbers .limit) m) (omega arith))
+        rw (
+          first,
+          le-leb t (st .numbers .last) held,
+          ne-eqb t 0 (λ e. omega arith),
+          new,
+          le-ltb (st .numbers .files) (capacityOf (st .numbers .limit) m) (omega arith),
+        )
 
     net-short : (x y : ℕ) (out work : List ℕ) → x ≤ st .numbers .last → y ≤ st .numbers .last
         → (length out < lent .output) ⊎ (length work < lent .workspace) → netOf st x y out work .outcome ≡ refuses 13

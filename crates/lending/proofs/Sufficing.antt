@@ -81,9 +81,10 @@ module _ (d N R n f : ℕ) (l : Lengths) (a : Answered d N R n f l) where
     room more h =
         let k : ℕ = st .numbers .records + more in
         let same : indexNeed (st .numbers .order) (st .numbers .page) k ≡ indexNeed d N k = cc (s .order-is, s .page-is) in
-        let index : indexNeed (st .numbers .order) (st .numbers .page) k ≤ length (st .memory .index) = rw same (index-serves k _ h (e .index-long)) in
-        (and-both (le-leb k 65536 (omega (arith, a .records-few))) (le-leb (24 + 24 * k) (length (st .memory .log)) (omega (arith, e .log-long))),
-        (le-leb _ _ index, tt))
+        let index : indexNeed (st .numbers .order) (st .numbers .page) k ≤ length (st .memory .index) = rw same (index-serves k _ h (e .index-long)) in (
+          and-both (le-leb k 65536 (omega (arith, a .records-few))) (le-leb (24 + 24 * k) (length (st .memory .log)) (omega (arith, e .log-long))),
+          (le-leb _ _ index, tt),
+        )
 
     free : st .numbers .files + 1 ≤ f → st .numbers .files < capacityOf (st .numbers .limit) (st .memory)
     free h =
