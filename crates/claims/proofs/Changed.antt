@@ -184,7 +184,8 @@ update-may-follow st t a c o f q =
     update-follows st o t a c (f .0) (f .1 .0) (f .1 .1) (h .0) (h .1 .0) (h .1 .1)
 
 -- what holds of the state, and wherever records that may follow it were appended, holds of the one that a call leaves
-module _ (P : State → Type 0) (st : State) (o : InOrder st) (stood : P st) (new : (t : ℕ) (rs : List Rec) → MayFollow st t rs → P (appended st t rs)) where
+module _ (P : State → Type 0) (st : State) (o : InOrder st) (stood : P st)
+    (new : (t : ℕ) (rs : List Rec) → MayFollow st t rs → P (appended st t rs)) where
   pub insert-leaves : (t a c : ℕ) → CallFits (Call.insert t a c) → P (insertOf st t a c .state)
   unfolding insertOf
   insert-leaves t a c f = either-left P (firstNo (insertQuestions st t a)) st _ stood (λ q. new t _ (insert-may-follow st t a c o f q))

@@ -6,7 +6,6 @@ use mathlib.Core.List.{List, [], _∷_}
 use Rattle.model.specs.Answers.{answers, firstNo}
 use Rattle.model.specs.Records.{Rec}
 use Rattle.model.specs.Memory.{Memory, State, state}
-use Rattle.model.specs.Starts.{freshMemory, openedMemory}
 use Rattle.model.specs.Changes.{appended}
 use Rattle.model.specs.Files.{keepQuestions, keepOf, notOf, dropQuestions, dropOf}
 use Rattle.model.specs.Facts.{InOrder}
@@ -58,9 +57,8 @@ module _ (d N R : ℕ) (l : Lengths) where
   module _ (st : State) (o : InOrder st) (h : Served st) where
     -- other counts, on regions as long
     still-served : (m' : Memory) (n u live files : ℕ) → SameLengths (st .memory) m'
-        → Served
-        (state
-        (record { order = st .numbers .order; page = st .numbers .page; limit = st .numbers .limit; records = n; last = u; live = live; files = files }) m')
+        → let s = st .numbers in
+        Served (state (record { order = s .order; page = s .page; limit = s .limit; records = n; last = u; live = live; files = files }) m')
     still-served m' n u live files same =
         let s = h .settings in
         record {

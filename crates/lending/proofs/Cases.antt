@@ -13,14 +13,15 @@ seven-lengths : lengthsOf 3 2 4 5 7 ≡ answers (record { log = 144; index = 6; 
 unfolding lengthsOf firstNo orderInRange pageSizeInRange rowLimitInRange recordsInRange cofactorUpTo cofactor opens opened nodes
 seven-lengths = refl
 
--- each number below and above its limits
-each-no : (lengthsOf 1 2 4 5 7 ∷ lengthsOf 65 2 4 5 7 ∷ lengthsOf 3 1 4 5 7 ∷ lengthsOf 3 65 4 5 7 ∷ lengthsOf 3 2 0 5 7 ∷ lengthsOf 3 2 1025 5 7 ∷ lengthsOf 3 2 4 65537 7
-    ∷ lengthsOf 3 2 4 5 17 ∷ []) ≡ refuses 2 ∷ refuses 2 ∷ refuses 3 ∷ refuses 3 ∷ refuses 4 ∷ refuses 4 ∷ refuses 5 ∷ refuses 15 ∷ []
+-- each number outside its limits
+each-no : (lengthsOf 1 2 4 5 7 ∷ lengthsOf 65 2 4 5 7 ∷ lengthsOf 3 1 4 5 7 ∷ lengthsOf 3 65 4 5 7 ∷ lengthsOf 3 2 0 5 7 ∷ lengthsOf 3 2 1025 5 7
+    ∷ lengthsOf 3 2 4 65537 7 ∷ lengthsOf 3 2 4 5 17 ∷ []) ≡ refuses 2 ∷ refuses 2 ∷ refuses 3 ∷ refuses 3 ∷ refuses 4 ∷ refuses 4 ∷ refuses 5 ∷ refuses 15 ∷ []
 unfolding lengthsOf firstNo orderInRange pageSizeInRange rowLimitInRange recordsInRange
 each-no = refl
 
 -- of two the first
-first-no : (lengthsOf 1 1 4 5 7 ∷ lengthsOf 3 1 0 5 7 ∷ lengthsOf 3 2 0 65537 7 ∷ lengthsOf 3 2 4 65537 17 ∷ []) ≡ refuses 2 ∷ refuses 3 ∷ refuses 4 ∷ refuses 5 ∷ []
+first-no : (lengthsOf 1 1 4 5 7 ∷ lengthsOf 3 1 0 5 7 ∷ lengthsOf 3 2 0 65537 7 ∷ lengthsOf 3 2 4 65537 17 ∷ [])
+    ≡ refuses 2 ∷ refuses 3 ∷ refuses 4 ∷ refuses 5 ∷ []
 unfolding lengthsOf firstNo orderInRange pageSizeInRange rowLimitInRange recordsInRange
 first-no = refl
 

@@ -48,12 +48,14 @@ module _ (d N R n f : ℕ) (l : Lengths) (a : Answered d N R n f l) where
   unfolding freshOf firstNo tableLong
   fresh-short m h = rw (a .go-on, either-no (leb 24 (length (m .log))) (leb (8 * R) (length (m .table))) (no h))
     where
-      no : (length (m .log) < 24) ⊎ (length (m .table) < lent .table) → (leb 24 (length (m .log)) ≡ false) ⊎ (leb (8 * R) (length (m .table)) ≡ false)
+      no : (length (m .log) < 24) ⊎ (length (m .table) < lent .table)
+          → (leb 24 (length (m .log)) ≡ false) ⊎ (leb (8 * R) (length (m .table)) ≡ false)
       no (inl g) = inl (lt-leb _ _ g)
       no (inr g) = inr (lt-leb (8 * R) (length (m .table)) (omega arith))
 
   module _ (m : Memory) (says : HeaderSays d N R n (m .log)) where
-    header-goes-on : (qs : List Question) → firstNo (settingsQuestions (headerOrder (m .log)) (headerPage (m .log)) (headerLimit (m .log)) ++ qs) ≡ firstNo qs
+    header-goes-on : (qs : List Question)
+        → firstNo (settingsQuestions (headerOrder (m .log)) (headerPage (m .log)) (headerLimit (m .log)) ++ qs) ≡ firstNo qs
     header-goes-on qs = rw (says .order-is, says .page-is, says .limit-is) (a .go-on qs)
 
     open-short : beginsLog (m .log) ≡ true → (length (m .log) < lent .log) ⊎ ((length (m .index) < lent .index) ⊎ (length (m .table) < lent .table))
@@ -73,7 +75,8 @@ module _ (d N R n f : ℕ) (l : Lengths) (a : Answered d N R n f l) where
         table : Bool
         table = leb (8 * R) (length (m .table))
 
-        no : (length (m .log) < lent .log) ⊎ ((length (m .index) < lent .index) ⊎ (length (m .table) < lent .table)) → (few && log && index && table) ≡ false
+        no : (length (m .log) < lent .log) ⊎ ((length (m .index) < lent .index) ⊎ (length (m .table) < lent .table))
+            → (few && log && index && table) ≡ false
         no (inl g) =
             let e : log ≡ false = lt-leb (24 + 24 * n) (length (m .log)) (omega arith) in
             either-no (few && log && index) table (inl (either-no (few && log) index (inl (either-no few log (inr e)))))
@@ -92,13 +95,16 @@ module _ (d N R n f : ℕ) (l : Lengths) (a : Answered d N R n f l) where
         let log = leb (24 + 24 * k) (length (st .memory .log)) in
         rw (either-no (recordsInRange k) log (inr (lt-leb (24 + 24 * k) (length (st .memory .log)) (omega arith))))
 
-    index-short : SettingsAre d N R (st .numbers) → lent .log ≤ length (st .memory .log) → length (st .memory .index) < lent .index → firstNo (roomFor st more) ≡ 11
+    index-short : SettingsAre d N R (st .numbers) → lent .log ≤ length (st .memory .log) → length (st .memory .index) < lent .index
+        → firstNo (roomFor st more) ≡ 11
     unfolding firstNo recordsInRange logLong indexLong
     index-short s long h =
         let k : ℕ = st .numbers .records + more in
         let same : indexNeed (st .numbers .order) (st .numbers .page) k ≡ indexNeed d N n = cc (s .order-is, s .page-is) in
-        rw (and-both (le-leb k 65536 (omega (arith, a .records-few))) (le-leb (24 + 24 * k) (length (st .memory .log)) (omega arith)),
-        lt-leb (indexNeed (st .numbers .order) (st .numbers .page) k) (length (st .memory .index)) (omega arith))
+        rw (
+          and-both (le-leb k 65536 (omega (arith, a .records-few))) (le-leb (24 + 24 * k) (length (st .memory .log)) (omega arith)),
+          lt-leb (indexNeed (st .numbers .order) (st .numbers .page) k) (length (st .memory .index)) (omega arith),
+        )
 
   module _ (st : State) (s : SettingsAre d N R (st .numbers)) (first : sound st ≡ true) where
     keep-short : (t : ℕ) → st .numbers .files + 1 ≡ f → 0 < t → t ≤ st .numbers .last → isKept t (filesOf st) ≡ false
@@ -108,8 +114,13 @@ module _ (d N R n f : ℕ) (l : Lengths) (a : Answered d N R n f l) where
         let m = st .memory in
         let full : capacityOf R m < f = short-capacity R (length (m .catalogue)) (length (m .areas)) f (a .settings .limit-low) h in
         let same : capacityOf (st .numbers .limit) m ≡ capacityOf R m = ap (λ (r : ℕ). capacityOf r m) (s .limit-is) in
-        rw (first, le-leb t (st .numbers .last) held, ne-eqb t 0 (λ e. omega arith), new,
-        le-ltb (st .numbers .files) (capacityOf (st .numbers .limit) m) (omega arith))
+        rw (
+          first,
+          le-leb t (st .numbers .last) held,
+          ne-eqb t 0 (λ e. omega arith),
+          new,
+          le-ltb (st .numbers .files) (capacityOf (st .numbers .limit) m) (omega arith),
+        )
 
     net-short : (x y : ℕ) (out work : List ℕ) → x ≤ st .numbers .last → y ≤ st .numbers .last
         → (length out < lent .output) ⊎ (length work < lent .workspace) → netOf st x y out work .outcome ≡ refuses 13
@@ -119,9 +130,15 @@ module _ (d N R n f : ℕ) (l : Lengths) (a : Answered d N R n f l) where
         r : ℕ
         r = st .numbers .limit
 
-        no : (length out < lent .output) ⊎ (length work < lent .workspace) → (leb (24 * r) (length out) && leb (16 * r) (length work)) ≡ false
-        no (inl g) = either-no (leb (24 * r) (length out)) (leb (16 * r) (length work)) (inl (lt-leb (24 * r) (length out) (omega (arith, s .limit-is))))
-        no (inr g) = either-no (leb (24 * r) (length out)) (leb (16 * r) (length work)) (inr (lt-leb (16 * r) (length work) (omega (arith, s .limit-is))))
+        written : Bool
+        written = leb (24 * r) (length out)
+
+        worked : Bool
+        worked = leb (16 * r) (length work)
+
+        no : (length out < lent .output) ⊎ (length work < lent .workspace) → (written && worked) ≡ false
+        no (inl g) = either-no written worked (inl (lt-leb (24 * r) (length out) (omega (arith, s .limit-is))))
+        no (inr g) = either-no written worked (inr (lt-leb (16 * r) (length work) (omega (arith, s .limit-is))))
 
 -- ---- the theorem
 

@@ -11,7 +11,6 @@ use lib.Dec.{leb}
 use borrow.Author.Tests.{le-leb, lt-ltb}
 use Rattle.model.specs.Answers.{Outcome, answers, refuses, refusesAt, Question, firstNo, unlessNo, TableSaid, OutsetSaid}
 use Rattle.model.specs.Settings.{recordsInRange}
-use Rattle.model.specs.Records.{headerOrder, headerPage, headerLimit, headerRecords}
 use Rattle.model.specs.Pages.{indexNeed}
 use Rattle.model.specs.Memory.{Memory, State, capacity, capacityOf, logLong, indexLong, tableLong}
 use Rattle.model.specs.Starts.{After, after, notStarted, freshOf, openQuestions, wellWritten, openOf}
@@ -27,32 +26,39 @@ use Rattle.lending.specs.Lengths.{lengthsFor, lengthsOf}
 use Rattle.lending.specs.Enough.{Enough, SettingsAre, HeaderSays, lacking, saidLacking, Within, EnoughForCall, EnoughToStart}
 use Rattle.lending.proofs.Answered.{Answered, answered}
 
--- ---- questions that ask for no memory, or are answered yes
+-- ---- questions that ask for memory, answered yes
 
--- a no to it is no want of memory
-abbrev Harmless : ℕ → Bool → Type 0
-Harmless k b = (b ≡ false → lacking {A = Unit} (refuses k) ≡ false)
+-- b is true, where it is asked for
+unfoldable sure : Bool → Bool → Type 0 → Type 0
+sure true b more = (b ≡ true) × more
+sure false b more = more
 
+-- every question that asks for memory is answered yes
 unfoldable Supplied : List Question → Type 0
 Supplied [] = Unit
-Supplied (q ∷ qs) = Harmless (q .number) (q .yes) × Supplied qs
+Supplied (q ∷ qs) = sure (lacking {A = Unit} (refuses (q .number))) (q .yes) (Supplied qs)
 
+-- then the first no is no want of memory
 supplied : (A : Type 0) (qs : List Question) → Supplied qs → lacking {A = A} (refuses (firstNo qs)) ≡ false
-unfolding Supplied firstNo lacking refusedBy
+unfolding sure Supplied firstNo lacking refusedBy
 supplied A [] h = refl
-supplied A (q ∷ qs) h = by (q .yes) refl (supplied A qs (h .1))
+supplied A (q ∷ qs) h = by (supplied A qs) (q .yes) refl (lacking {A = Unit} (refuses (q .number))) refl h
   where
-    by : (b : Bool) → q .yes ≡ b → lacking {A = A} (refuses (firstNo qs)) ≡ false → lacking {A = A} (refuses (firstNo (q ∷ qs))) ≡ false
-    by true e ih = rw e ih
-    by false e ih = rw e (h .0 e)
+    by : (Supplied qs → lacking {A = A} (refuses (firstNo qs)) ≡ false) → (b : Bool) → q .yes ≡ b → (w : Bool) → lacking {A = Unit} (refuses (q .number)) ≡ w
+        → sure w (q .yes) (Supplied qs) → lacking {A = A} (refuses (firstNo (q ∷ qs))) ≡ false
+    by ih true e true ew h = rw e (ih (h .1))
+    by ih true e false ew h = rw e (ih h)
+    by ih false e true ew h = absurd (false≢true (sym e ∙ h .0))
+    by ih false e false ew h = rw e ew
 
-certain : (k : ℕ) (b : Bool) → b ≡ true → Harmless k b
-certain k b t f = absurd (false≢true (sym f ∙ t))
-
--- what is done lacks nothing, nor does what is refused by such questions
-unless : {B : Type 0} (lacks : B → Bool) (k : ℕ) (done : B) (refused : ℕ → B) → lacks done ≡ false → lacks (refused k) ≡ false → lacks (unlessNo k done refused) ≡ false
+-- nor does what is done lack anything
+unless : {B : Type 0} (lacks : B → Bool) (k : ℕ) (done : B) (refused : ℕ → B) → lacks done ≡ false → lacks (refused k) ≡ false
+    → lacks (unlessNo k done refused) ≡ false
 unless lacks zero done refused h g = h
 unless lacks (suc k) done refused h g = g
+
+abbrev changeLacks : After → Bool
+changeLacks r = lacking (r .outcome)
 
 -- ---- the five regions
 
@@ -71,48 +77,48 @@ module _ (d N R n f : ℕ) (l : Lengths) (a : Answered d N R n f l) where
 
   module _ (st : State) (s : SettingsAre d N R (st .numbers)) (e : Enough (lengthsFor d N R n f) (st .memory)) where
     room : (more : ℕ) → st .numbers .records + more ≤ n → Supplied (roomFor st more)
-    unfolding Supplied recordsInRange logLong indexLong
+    unfolding sure Supplied lacking refusedBy recordsInRange logLong indexLong
     room more h =
         let k : ℕ = st .numbers .records + more in
         let same : indexNeed (st .numbers .order) (st .numbers .page) k ≡ indexNeed d N k = cc (s .order-is, s .page-is) in
-        let index : indexNeed (st .numbers .order) (st .numbers .page) k ≤ length (st .memory .index) = rw same (index-serves k _ h (e .index-long)) in
-        (certain 10 _ (and-both (le-leb k 65536 (omega (arith, a .records-few))) (le-leb (24 + 24 * k) _ (omega (arith, e .log-long)))),
-        (certain 11 _ (le-leb _ _ index), tt))
+        let index : indexNeed (st .numbers .order) (st .numbers .page) k ≤ length (st .memory .index) = rw same (index-serves k _ h (e .index-long)) in (
+          and-both (le-leb k 65536 (omega (arith, a .records-few))) (le-leb (24 + 24 * k) (length (st .memory .log)) (omega (arith, e .log-long))),
+          (le-leb _ _ index, tt),
+        )
 
     free : st .numbers .files + 1 ≤ f → st .numbers .files < capacityOf (st .numbers .limit) (st .memory)
     free h =
         let m = st .memory in
-        let all = within-capacity R (length (m .catalogue)) (length (m .areas)) f (a .settings .limit-low) (a .files-few) (e .entries-long) (e .areas-long) in
+        let entries = length (m .catalogue) in
+        let all = within-capacity R entries (length (m .areas)) f (a .settings .limit-low) (a .files-few) (e .entries-long) (e .areas-long) in
         let same : capacityOf (st .numbers .limit) m ≡ capacityOf R m = ap (λ (r : ℕ). capacityOf r m) (s .limit-is) in
         omega arith
 
+    long : (k bytes : ℕ) → k * R ≤ bytes → leb (k * st .numbers .limit) bytes ≡ true
+    long k bytes h = rw (s .limit-is) (le-leb (k * R) bytes h)
+
     call : (c : Call) → Within n f (lengthsFor d N R n f) st c → saidLacking (answerOf st c) ≡ false
-    unfolding Within saidLacking answerOf lacking refusedBy Supplied insertOf deleteOf updateOf positionOf tableOf viewOf netOf keepOf dropOf
+    unfolding Within saidLacking answerOf lacking refusedBy sure Supplied insertOf deleteOf updateOf positionOf tableOf viewOf netOf keepOf dropOf
     call (Call.insert t x c) h =
-        unless (λ (r : After). lacking (r .outcome)) (firstNo (insertQuestions st t x)) _ (unchanged st) refl
-        (supplied Unit (insertQuestions st t x) ((λ _. refl), ((λ _. refl), ((λ _. refl), ((λ _. refl), room 1 h)))))
+        unless changeLacks (firstNo (insertQuestions st t x)) _ (unchanged st) refl (supplied Unit (insertQuestions st t x) (room 1 h))
     call (Call.delete t x) h =
-        unless (λ (r : After). lacking (r .outcome)) (firstNo (presentQuestions st t x 1)) _ (unchanged st) refl
-        (supplied Unit (presentQuestions st t x 1) ((λ _. refl), ((λ _. refl), ((λ _. refl), room 1 h))))
+        unless changeLacks (firstNo (presentQuestions st t x 1)) _ (unchanged st) refl (supplied Unit (presentQuestions st t x 1) (room 1 h))
     call (Call.update t x c) h =
-        unless (λ (r : After). lacking (r .outcome)) (firstNo (presentQuestions st t x 2)) _ (unchanged st) refl
-        (supplied Unit (presentQuestions st t x 2) ((λ _. refl), ((λ _. refl), ((λ _. refl), room 2 h))))
+        unless changeLacks (firstNo (presentQuestions st t x 2)) _ (unchanged st) refl (supplied Unit (presentQuestions st t x 2) (room 2 h))
     call (Call.position t) h =
-        unless (λ (r : Outcome ℕ). lacking r) (firstNo (timeQuestions st t)) _ refuses refl (supplied ℕ (timeQuestions st t) ((λ _. refl), ((λ _. refl), tt)))
+        unless (λ (r : Outcome ℕ). lacking r) (firstNo (timeQuestions st t)) _ refuses refl (supplied ℕ (timeQuestions st t) tt)
     call (Call.table t out) h =
         unless (λ (r : Written TableSaid). lacking (r .outcome)) (firstNo (tableQuestions st t out)) _ _ refl
-        (supplied TableSaid (tableQuestions st t out) ((λ _. refl), ((λ _. refl), (certain 13 _ (le-leb (8 * st .numbers .limit) (length out) (omega (arith, s .limit-is))), tt))))
+        (supplied TableSaid (tableQuestions st t out) (long 8 (length out) (omega arith), tt))
     call (Call.view t) h =
-        unless (λ (r : Viewed). lacking (r .outcome)) (firstNo (timeQuestions st t)) _ _ refl (supplied OutsetSaid (timeQuestions st t) ((λ _. refl), ((λ _. refl), tt)))
+        unless (λ (r : Viewed). lacking (r .outcome)) (firstNo (timeQuestions st t)) _ _ refl (supplied OutsetSaid (timeQuestions st t) tt)
     call (Call.netChange x y out work) h =
         unless (λ (r : Netted). lacking (r .outcome)) (firstNo (netQuestions st x y out work)) _ _ refl
-        (supplied ℕ (netQuestions st x y out work) ((λ _. refl), ((λ _. refl), ((λ _. refl),
-        (certain 13 _ (and-both (le-leb (24 * st .numbers .limit) (length out) (omega (arith, s .limit-is, h .0))) (le-leb (16 * st .numbers .limit) (length work) (omega (arith, s .limit-is, h .1)))), tt)))))
+        (supplied ℕ (netQuestions st x y out work)
+        (and-both (long 24 (length out) (omega (arith, h .0))) (long 16 (length work) (omega (arith, h .1))), tt))
     call (Call.keep t) h =
-        unless (λ (r : After). lacking (r .outcome)) (firstNo (keepQuestions st t)) _ (unchanged st) refl
-        (supplied Unit (keepQuestions st t) ((λ _. refl), ((λ _. refl), ((λ _. refl), (certain 15 _ (lt-ltb (st .numbers .files) (capacityOf (st .numbers .limit) (st .memory)) (free h)), tt)))))
-    call (Call.drop t) h =
-        unless (λ (r : After). lacking (r .outcome)) (firstNo (dropQuestions st t)) _ (unchanged st) refl (supplied Unit (dropQuestions st t) ((λ _. refl), ((λ _. refl), tt)))
+        unless changeLacks (firstNo (keepQuestions st t)) _ (unchanged st) refl (supplied Unit (keepQuestions st t) (lt-ltb _ _ (free h), tt))
+    call (Call.drop t) h = unless changeLacks (firstNo (dropQuestions st t)) _ (unchanged st) refl (supplied Unit (dropQuestions st t) tt)
     call Call.audit h = refl
 
   -- ---- starts
@@ -125,23 +131,24 @@ module _ (d N R n f : ℕ) (l : Lengths) (a : Answered d N R n f l) where
       rw (a .go-on, space)
 
   open-supplied : (m : Memory) (k : ℕ) → k ≤ n → HeaderSays d N R k (m .log) → Enough (lengthsFor d N R n f) m → lacking (openOf m .outcome) ≡ false
-  unfolding openOf lacking refusedBy Supplied recordsInRange logLong indexLong tableLong
+  unfolding openOf lacking refusedBy sure Supplied recordsInRange logLong indexLong tableLong
   open-supplied m k h says e =
-      unless (λ (r : After). lacking (r .outcome)) (firstNo (openQuestions m)) _ (notStarted m) (either (wellWritten m) _ _ _)
-      (supplied Unit (openQuestions m) ((λ _. refl), ((λ _. refl), ((λ _. refl), ((λ _. refl), (certain 5 _ space, tt))))))
+      unless changeLacks (firstNo (openQuestions m)) _ (notStarted m) (either (wellWritten m) _ _ _)
+      (supplied Unit (openQuestions m) (rw (says .order-is, says .page-is, says .limit-is, says .records-is) space, tt))
     where
       -- accepted, or refused by 17
       either : (b : Bool) (r : ℕ) (x y : State) → lacking (cond b (after (answers tt) x) (after (refusesAt 17 r) y) .outcome) ≡ false
       either true r x y = refl
       either false r x y = refl
 
-      space : (leb (headerRecords (m .log)) 65536 && leb (24 + 24 * headerRecords (m .log)) (length (m .log))
-          && leb (indexNeed (headerOrder (m .log)) (headerPage (m .log)) (headerRecords (m .log))) (length (m .index))
-          && leb (8 * headerLimit (m .log)) (length (m .table))) ≡ true
-      space =
-          rw (says .order-is, says .page-is, says .limit-is, says .records-is)
-          (and-both (and-both (and-both (le-leb k 65536 (omega (arith, a .records-few))) (le-leb (24 + 24 * k) (length (m .log)) (omega (arith, e .log-long))))
-          (le-leb (indexNeed d N k) (length (m .index)) (index-serves k _ h (e .index-long)))) (le-leb (8 * R) (length (m .table)) (omega (arith, e .table-long))))
+      log : (leb k 65536 && leb (24 + 24 * k) (length (m .log))) ≡ true
+      log = and-both (le-leb k 65536 (omega (arith, a .records-few))) (le-leb (24 + 24 * k) (length (m .log)) (omega (arith, e .log-long)))
+
+      index : leb (indexNeed d N k) (length (m .index)) ≡ true
+      index = le-leb _ _ (index-serves k (length (m .index)) h (e .index-long))
+
+      space : (leb k 65536 && leb (24 + 24 * k) (length (m .log)) && leb (indexNeed d N k) (length (m .index)) && leb (8 * R) (length (m .table))) ≡ true
+      space = and-both (and-both log index) (le-leb (8 * R) (length (m .table)) (omega (arith, e .table-long)))
 
 -- ---- the theorems
 

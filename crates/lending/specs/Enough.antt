@@ -87,7 +87,8 @@ lentBy (opening m) = m
 -- a call after any list of calls: the lengths are asked of the memory lent at the start
 abbrev pub EnoughForCalls : (d N R n f : ℕ) → Lengths → Type 0
 EnoughForCalls d N R n f l =
-    (s : Start) (cs : List Call) (c : Call) → StartFits s → AllFit cs → Accepted (begun s) → SettingsAre d N R (begun s .state .numbers) → Enough l (lentBy s)
+    (s : Start) (cs : List Call) (c : Call) → StartFits s → AllFit cs → Accepted (begun s)
+    → SettingsAre d N R (begun s .state .numbers) → Enough l (lentBy s)
     → Within n f l (left s cs) c → saidLacking (answerOf (left s cs) c) ≡ false
 
 -- ---- no less
@@ -106,5 +107,6 @@ pub record NoLess (d N R n f : ℕ) (l : Lengths) : Type 0 where
   pub kept : (st : State) (t : ℕ) → SettingsAre d N R (st .numbers) → st .numbers .files + 1 ≡ f → sound st ≡ true → 0 < t → t ≤ st .numbers .last
       → isKept t (filesOf st) ≡ false → (length (st .memory .catalogue) < l .entries) ⊎ (length (st .memory .areas) < l .areas)
       → keepOf st t .outcome ≡ refuses 15
-  pub net-change : (st : State) (a b : ℕ) (out work : List ℕ) → SettingsAre d N R (st .numbers) → sound st ≡ true → a ≤ st .numbers .last → b ≤ st .numbers .last
+  pub net-change : (st : State) (a b : ℕ) (out work : List ℕ) → SettingsAre d N R (st .numbers) → sound st ≡ true
+      → a ≤ st .numbers .last → b ≤ st .numbers .last
       → (length out < l .output) ⊎ (length work < l .workspace) → netOf st a b out work .outcome ≡ refuses 13

@@ -40,7 +40,15 @@ fn lengths_in_range(s: Settings, records: u32, files: u32) -> Lengths
     let areas = 8 * rows * entries;
     let output = 24 * rows;
     let workspace = 16 * rows;
-    Lengths { log, index, table, entries, areas, output, workspace }
+    Lengths {
+        log,
+        index,
+        table,
+        entries,
+        areas,
+        output,
+        workspace,
+    }
 }
 
 // What to lend for a store of these settings that is to hold so many records and count files.

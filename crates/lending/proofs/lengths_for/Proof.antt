@@ -58,7 +58,8 @@ returns-3 c =
     let a = f .before .args in
     let ok = passed (a .order) (a .page) (a .limit) _ (rw (x .s .given .1) at (f .checked .ensures)) in
     rw (ok .go-on, le-leb (a .records) 65536 (omega arith), le-leb (a .files) 16 (omega arith))
-    (ap answers (c .lengths-in-range .ensures ∙ ap (λ (s : Settings). lengthsFor (s .order) (s .page) (s .limit) (a .records) (a .files)) (ok .settings-are)))
+    (ap answers
+    (c .lengths-in-range .ensures ∙ ap (λ (s : Settings). lengthsFor (s .order) (s .page) (s .limit) (a .records) (a .files)) (ok .settings-are)))
 
 returns-4 : tie.Need-returns-4
 unfolding checkedOutcome lengthsOutcome lengthsOf recordsInRange
