@@ -1,13 +1,12 @@
--- A part of w words of a list that is written elsewhere, or there; new nodes and zeros word by word. Assumes
--- nothing.
+-- A part of w words of a list that is written elsewhere, or there; new nodes. Assumes nothing.
 use Prim.Native.Nat.{ℕ, suc, _+_, _-_, _≤_, _<_}
 use mathlib.Core.Path.{_≡_, refl, sym, ap, ap₂, _∙_}
 use mathlib.Core.Logic.{_⊎_, ⊎-elim}
 use mathlib.Core.List.{List, [], _∷_, _++_, append-assoc}
 use native.Mathlib.Omega.{arith}
-use lib.ListN.{length, getD, set, take, drop, replicate, length-append, length-drop, length-replicate, take-append-drop, replicate-append-replicate}
-use lib.Seq.{drop-set-lt, drop-set-add, take-set-le, take-set-lt, length-take-le, take-append-le, take-at, drop-at, drop-drop, drop-append-le, set-at, drop-cons}
-use native.Mathlib.Numerals.{add-one}
+use lib.ListN.{length, getD, set, take, drop, replicate, length-append, length-drop, length-set, length-replicate, take-append-drop}
+use lib.Seq.{drop-set-lt, drop-set-add, take-set-le, take-set-lt, length-take-le, take-append-le, take-at, drop-at, drop-drop, drop-append-le, set-at}
+use borrow.Rule.Slice.PartMut.{putMid, same-len-mid}
 use Rattle.codec.specs.Parts.{put, zeros}
 use Rattle.model.specs.Shape.{padded}
 
@@ -67,26 +66,13 @@ padded-more w x ys h =
 pub length-padded : (w : ℕ) (ys : List ℕ) → length ys ≤ w → length (padded w ys) ≡ w
 length-padded w ys h = simp (length-append, length-replicate) (omega arith)
 
--- a new node, word by word
-pub node-start : (xs : List ℕ) (v : ℕ) → 0 < length xs → set xs 0 v ≡ padded 1 (v ∷ []) ++ drop 1 (set xs 0 v)
-node-start [] v h = absurd (omega arith)
-node-start (x ∷ xs) v h = refl
+-- a new node: its first word, and zeros in the part behind it
+pub node-length : (w v : ℕ) (xs : List ℕ) {ys : List ℕ} → ys ≡ zeros (length (take (w - 1) (drop 1 (set xs 0 v)))) → length (putMid 1 (w - 1) (set xs 0 v) ys) ≡ length xs
+node-length w v xs {ys} e = same-len-mid 1 (w - 1) (set xs 0 v) ys (ap length e ∙ length-replicate {A = ℕ} _ 0) ∙ length-set xs 0 v
 
-padded-snoc : (v i : ℕ) → 0 < i → padded (suc i) (v ∷ []) ≡ padded i (v ∷ []) ++ (0 ∷ [])
-padded-snoc v i p =
-    let n : suc i - 1 ≡ i - 1 + 1 = omega arith in
-    ap (λ (m : ℕ). v ∷ replicate m 0) n ∙ ap (λ (ys : List ℕ). v ∷ ys) (sym (replicate-append-replicate {A = ℕ} (i - 1) 1 0))
-
-pub node-turn : (xs : List ℕ) (v i : ℕ) → 0 < i → i < length xs → set (padded i (v ∷ []) ++ drop i xs) i 0 ≡ padded (i + 1) (v ∷ []) ++ drop (i + 1) xs
-node-turn xs v i p l =
-    ap (λ (ys : List ℕ). set (padded i (v ∷ []) ++ ys) i 0) (drop-cons xs i 0 l)
-    ∙ set-at (padded i (v ∷ [])) (getD xs i 0) (drop (suc i) xs) 0 i (length-padded i (v ∷ []) (omega arith))
-    ∙ sym (ap (λ (n : ℕ). padded n (v ∷ []) ++ drop n xs) (add-one i) ∙ ap (λ (ys : List ℕ). ys ++ drop (suc i) xs) (padded-snoc v i p) ∙ append-assoc (padded i (v ∷ [])) (0 ∷ []) (drop (suc i) xs))
-
--- zeros, word by word
-pub zeros-turn : (xs : List ℕ) (i : ℕ) → i < length xs → set (zeros i ++ drop i xs) i 0 ≡ zeros (i + 1) ++ drop (i + 1) xs
-zeros-turn xs i l =
-    ap (λ (ys : List ℕ). set (zeros i ++ ys) i 0) (drop-cons xs i 0 l)
-    ∙ set-at (zeros i) (getD xs i 0) (drop (suc i) xs) 0 i (length-replicate i 0)
-    ∙ sym (append-assoc (zeros i) (0 ∷ []) (drop (suc i) xs))
-    ∙ ap₂ (λ (ys : List ℕ) (n : ℕ). ys ++ drop n xs) (replicate-append-replicate {A = ℕ} i 1 0) (sym (add-one i))
+pub node-is : (w v : ℕ) (xs : List ℕ) {ys : List ℕ} → 0 < w → w ≤ length xs → ys ≡ zeros (length (take (w - 1) (drop 1 (set xs 0 v))))
+    → putMid 1 (w - 1) (set xs 0 v) ys ≡ padded w (v ∷ []) ++ drop w xs
+node-is w v [] p l e = absurd (omega arith)
+node-is w v (x ∷ xs) {ys} p l e =
+    let n : suc (w - 1) ≡ w = omega arith in
+    ap₂ (λ (zs : List ℕ) (i : ℕ). v ∷ (zs ++ drop i (x ∷ xs))) (e ∙ ap zeros (length-take-le (w - 1) xs (omega arith))) n

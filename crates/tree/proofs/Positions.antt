@@ -1,6 +1,6 @@
 -- Where a descent ends and where it starts: in a leaf, and at the top of all leaves; and the page position that
 -- its count of keys gives. Assumes nothing.
-use Prim.Native.Nat.{ℕ, _+_, _-_, _*_, _^_, _≤_, _<_, min}
+use Prim.Native.Nat.{ℕ, _+_, _-_, _*_, _/_, _^_, _≤_, _<_, min}
 use mathlib.Core.Path.{_≡_, sym, ap, _∙_, subst}
 use mathlib.Core.List.{List}
 use native.Mathlib.Omega.{arith}
@@ -18,7 +18,7 @@ use Rattle.tree.proofs.Numbers.{leaf-in, leaf-closed, inners-le}
 use Rattle.tree.proofs.Packings.{by-leaf, leaves-at}
 
 -- ---- a leaf
-module _ (d k n first a : ℕ) (h : Leaf d k n first a) where
+module _ {d k n first a : ℕ} (h : Leaf d k n first a) where
   pub leaf-few : a ≤ 65536
   leaf-few =
       let one : 1 ≤ d - 1 = omega (arith, h .order-low) in
@@ -30,8 +30,8 @@ module _ (d k n first a : ℕ) (h : Leaf d k n first a) where
   pub leaf-number : first ≤ 131072
   leaf-number = omega (arith, h .number, leaf-closed d (h .order-low) a, inners-le d (h .order-low) a, leaf-few)
 
-  pub found-leaf : (xs : List ℕ) (t j : ℕ) → Cut xs (nodeWord d first) (min (d - 1) (k - a * (d - 1))) t j → Found xs d k t a 1 (a * (d - 1) + j)
-  found-leaf xs t j cut = record {
+  pub found-leaf : {xs : List ℕ} {t j : ℕ} → Cut xs (nodeWord d first) (min (d - 1) (k - a * (d - 1))) t j → Found xs d k t a 1 (a * (d - 1) + j)
+  found-leaf {xs} {t} {j} cut = record {
     within = omega (arith, cut .upto, h .there);
     counts = λ keys e rising p bt.
         sym (count-in-leaf keys xs (d - 1) t a (nodeWord d first) j (omega (arith, h .order-low)) rising
@@ -39,23 +39,33 @@ module _ (d k n first a : ℕ) (h : Leaf d k n first a) where
         (subst (λ (x : ℕ). Cut xs (nodeWord d first) (min (d - 1) (x - a * (d - 1))) t j) (sym e) cut) bt);
   }
 
-pub down-leaf : (d k n width under first a r : ℕ) → Down d k n 0 width under first a r → Leaf d k n first a
-down-leaf d k n width under first a r h =
-    let e : r ≡ 1 = omega (arith, h .fits, h .width-is, pow-zero d, h .some) in
-    record { order-low = h .order-low; order-high = h .order-high; few = h .few; number = h .number; there = omega (arith, rw e at (h .there)); long = rw e at (h .long) }
+-- level 0 is one leaf
+module _ {d k n u under first a r : ℕ} (h : Down d k n 0 u under first a r) where
+  pub down-one : r ≡ 1
+  down-one = omega (arith, h .fits, pow-zero d, h .some)
 
-pub down-one : (d k n width under first a r : ℕ) → Down d k n 0 width under first a r → r ≡ 1
-down-one d k n width under first a r h = omega (arith, h .fits, h .width-is, pow-zero d, h .some)
+  pub down-leaf : Leaf d k n first a
+  down-leaf = record {
+    order-low = h .order-low;
+    order-high = h .order-high;
+    few = h .few;
+    number = h .number;
+    there = omega (arith, rw down-one at (h .there));
+    long = rw down-one at (h .long);
+  }
+
+  pub found-one : {xs : List ℕ} {t c : ℕ} → Found xs d k t a 1 c → Found xs d k t a r c
+  found-one f = rw down-one f
 
 -- ---- the whole tree
-module _ (d k n : ℕ) (h : Room d k n) (p : 0 < k) where
-  pub down-top : (level width under : ℕ) → width ≡ d ^ level → under ≡ innersOver d level → leavesOf d k ≤ width → Down d k n level width under 0 0 (leavesOf d k)
-  down-top level width under e f wide =
+module _ {d k n : ℕ} (h : Room d k n) (p : 0 < k) where
+  pub down-top : {level u under : ℕ} → u ≡ d ^ level / d → under ≡ innersOver d level → leavesOf d k ≤ d ^ level → Down d k n level u under 0 0 (leavesOf d k)
+  down-top {level} e f wide =
       record {
         order-low = h .order-low;
         order-high = h .order-high;
         few = h .few;
-        width-is = e;
+        unit-is = e;
         under-is = f;
         block = 0;
         border = sym (zero-mul (d ^ level));
@@ -75,16 +85,16 @@ module _ (d k n : ℕ) (h : Room d k n) (p : 0 < k) where
   }
 
   -- a page position from a number of keys
-  pub position-found : (xs : List ℕ) (t c q : ℕ) → Found xs d k t 0 (leavesOf d k) c → q ≡ c - 1 → Position xs d k t q
-  position-found xs t c q f e = record {
+  pub position-found : {xs : List ℕ} {t c q : ℕ} → Found xs d k t 0 (leavesOf d k) c → q ≡ c - 1 → Position xs d k t q
+  position-found {xs} {t} {c} f e = record {
     packed = λ keys len rising pk. e ∙ ap (λ (x : ℕ). x - 1) (f .counts keys len rising pk (between-all keys t len));
     within = omega (arith, f .within);
     inside = λ _. omega (arith, f .within);
   }
 
 -- no key: position 0
-pub position-none : (xs : List ℕ) (d k t : ℕ) → k ≡ 0 → Position xs d k t 0
-position-none xs d k t e = record {
+pub position-none : {xs : List ℕ} {d k t : ℕ} → k ≡ 0 → Position xs d k t 0
+position-none {t = t} e = record {
   packed = λ keys len rising pk. sym (ap (λ (x : ℕ). x - 1) (count-none keys t (len ∙ e)));
   within = omega arith;
   inside = λ l. absurd (omega arith);

@@ -8,34 +8,26 @@ use native.Mathlib.Omega.{arith}
 use native.Mathlib.Nat.{le-trans, le-of-lt, lt-of-lt-of-le, add-zero, mul-le-mul-right, le-div-iff-mul-le, div-lt-iff-lt-mul, zero-mul}
 use lib.ListN.{length, getD}
 use Rattle.model.specs.Tree.{Rising, keysUpTo}
-use Rattle.tree.specs.Ranges.{Cut, Between}
+use Rattle.tree.specs.Ranges.{Bracket, Cut, Between}
 use Rattle.tree.proofs.Orders.{le-or-lt}
 use Rattle.tree.proofs.Counts.{count-is}
 
--- ---- a search by halves, in any words: the cut lies from `low` on, among `left` words and the next
-module _ (words : List ℕ) (at c t : ℕ) where
-  pub record Bracket (low left : ℕ) : Type 0 where
-    pub within : low + left ≤ c
-    pub before : 0 < low → getD words (at + (low - 1)) 0 ≤ t
-    pub after : low + left < c → t < getD words (at + (low + left)) 0
+-- ---- a cut by rungs, in any words: k words more are passed, or not
+module _ {words : List ℕ} {at c t low : ℕ} (k : ℕ) (one : 0 < k) where
+  pub bracket-up : low + k ≤ c → getD words (at + (low + k - 1)) 0 ≤ t → Bracket words at c t low (2 * k - 1) → Bracket words at c t (low + k) (k - 1)
+  bracket-up l h b =
+      let e : low + k + (k - 1) ≡ low + (2 * k - 1) = omega arith in
+      record { upto = l; before = λ _. h; after = rw e (b .after) }
 
-  pub bracket-start : Bracket 0 c
-  bracket-start = record { within = omega arith; before = λ l. absurd (omega arith); after = λ l. absurd (omega arith) }
+  pub bracket-down : t < getD words (at + (low + k - 1)) 0 → Bracket words at c t low (2 * k - 1) → Bracket words at c t low (k - 1)
+  bracket-down h b =
+      let e : low + k - 1 ≡ low + (k - 1) = omega arith in
+      record { upto = b .upto; before = b .before; after = λ _. rw e at h }
 
-  -- the middle word is at most t, or above
-  pub bracket-up : (low left half : ℕ) → half < left → getD words (at + (low + half)) 0 ≤ t → Bracket low left → Bracket (low + half + 1) (left - half - 1)
-  bracket-up low left half l h b =
-      let e : low + half + 1 + (left - half - 1) ≡ low + left = omega arith in
-      let m : low + half + 1 - 1 ≡ low + half = omega arith in
-      record { within = rw e (b .within); before = λ _. rw m h; after = rw e (b .after) }
-
-  pub bracket-down : (low left half : ℕ) → half < left → t < getD words (at + (low + half)) 0 → Bracket low left → Bracket low half
-  bracket-down low left half l h b = record { within = omega (arith, b .within); before = b .before; after = λ _. h }
-
-  pub bracket-end : (low left : ℕ) → left ≡ 0 → Bracket low left → Cut words at c t low
-  bracket-end low left z b =
-      let e : low + left ≡ low = omega arith in
-      record { upto = omega (arith, b .within); before = b .before; after = rw e at (b .after) }
+pub bracket-end : {words : List ℕ} {at c t low : ℕ} → Bracket words at c t low 0 → Cut words at c t low
+bracket-end {low = low} b =
+    let e : low + 0 ≡ low = omega arith in
+    record { upto = b .upto; before = b .before; after = rw e at (b .after) }
 
 -- ---- one node: separators u leaves apart, of which j are at most t
 module _ (keys xs : List ℕ) (w t a r u n j : ℕ) (one : 0 < w) (pos : 0 < u) (rising : Rising keys)

@@ -1,7 +1,7 @@
 -- The descent from node number to node number (01, "Packed tree"): what its calls ask for and what they find.
--- A node that stands on level l + 1 is over at most d ^ (l + 1) leaves; a level that the right edge skips has
--- none. Assumes nothing.
-use Prim.Native.Nat.{ℕ, zero, suc, _+_, _-_, _*_, _/_, _^_, _≤_, _<_}
+-- A node that stands on level l + 1 is over at most d ^ (l + 1) leaves, d ^ l below each word; a level that the
+-- right edge skips has none. Assumes nothing.
+use Prim.Native.Nat.{ℕ, _+_, _-_, _*_, _/_, _^_, _≤_, _<_, min}
 use mathlib.Core.Path.{_≡_}
 use mathlib.Core.List.{List}
 use lib.ListN.{length}
@@ -13,8 +13,7 @@ use Rattle.tree.specs.Ranges.{Between}
 -- the number of the first leaf below child j of the node over the leaves from number `first` on, `under` nodes
 -- below each word: the node itself is numbered after all of child 0
 abbrev pub childNode : ℕ → ℕ → ℕ → ℕ
-childNode first under zero = first
-childNode first under (suc j) = first + suc j * under + 1
+childNode first under j = first + j * under + min j 1
 
 -- leaf a of k keys, its number, in an index of n words
 pub record Leaf (d k n first a : ℕ) : Type 0 where
@@ -25,29 +24,30 @@ pub record Leaf (d k n first a : ℕ) : Type 0 where
   pub there : a * (d - 1) < k
   pub long : nodes d (a + 1) * (d - 1) ≤ n
 
--- the node over r leaves of which the first has the number `first`, u leaves below each word and `under` nodes
-pub record Node (d n width u under first r : ℕ) : Type 0 where
+-- the node over r leaves of which the first has the number `first`, u leaves below each word and `under` nodes;
+-- it is there if the leaves are more than u
+pub record Node (d n u under first r : ℕ) : Type 0 where
   pub order-low : 2 ≤ d
   pub order-high : d ≤ 64
-  pub width-is : width ≡ u * d
-  pub some : 0 < u
-  pub more : u < r
-  pub fits : r ≤ width
-  pub small : first + under ≤ 131072
-  pub long : (first + under) * (d - 1) + (d - 1) ≤ n
+  pub unit : 0 < u
+  pub some : 0 < r
+  pub few : r ≤ 65536
+  pub fits : r ≤ u * d
+  pub small : u < r → first + under ≤ 131072
+  pub long : u < r → nodeWord d (first + under) + (d - 1) ≤ n
 
 -- the leaves a to a + r - 1 of k keys, at most as many as the level is wide, on a border of that width
-pub record Down (d k n level width under first a r : ℕ) : Type 0 where
+pub record Down (d k n level u under first a r : ℕ) : Type 0 where
   pub order-low : 2 ≤ d
   pub order-high : d ≤ 64
   pub few : k ≤ 65536
-  pub width-is : width ≡ d ^ level
+  pub unit-is : u ≡ d ^ level / d
   pub under-is : under ≡ innersOver d level
   pub block : ℕ
   pub border : a ≡ block * d ^ level
   pub number : first ≡ leafNode d a
   pub some : 0 < r
-  pub fits : r ≤ width
+  pub fits : r ≤ d ^ level
   pub there : (a + r) * (d - 1) < k + (d - 1)
   pub long : nodes d (a + r) * (d - 1) ≤ n
 

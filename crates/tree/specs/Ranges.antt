@@ -11,6 +11,12 @@ pub record Cut (words : List ℕ) (at c t j : ℕ) : Type 0 where
   pub before : 0 < j → getD words (at + (j - 1)) 0 ≤ t
   pub after : j < c → t < getD words (at + j) 0
 
+-- on the way there, in any words: the jth lies from `low` on, among `left` words and the next
+pub record Bracket (words : List ℕ) (at c t low left : ℕ) : Type 0 where
+  pub upto : low ≤ c
+  pub before : 0 < low → getD words (at + (low - 1)) 0 ≤ t
+  pub after : low + left < c → t < getD words (at + (low + left)) 0
+
 -- the keys up to t end in the leaves a to a + r - 1 of w keys each, of which the last has a key
 pub record Between (keys : List ℕ) (w t a r : ℕ) : Type 0 where
   pub some : 0 < r

@@ -1,12 +1,12 @@
--- `tree::descend` meets its contract: what a child finds is what its parent finds, and a level that the right
--- edge skips adds nothing. Measure: the level. Assumes nothing.
-use mathlib.Core.Path.{sym, subst}
-use Rattle.tree.specs.Descent.{Found}
-use Rattle.tree.proofs.Descents.{raised, down-skip, down-node, down-child, found-child, under-low, leaves-few, child-small, child-inside}
-use Rattle.tree.proofs.Positions.{down-leaf, down-one}
+-- `tree::descend` meets its contract: what a child finds is what its parent finds. Measure: the level. Assumes
+-- nothing.
+use Prim.Native.Nat.{ℕ, suc, _-_, _<_}
+use lib.ListN.{length}
+use Rattle.tree.specs.Descent.{Down}
+use Rattle.tree.proofs.Descents.{raised, down-node, under-low, leaves-few, child-small, child-inside, down-child, found-child}
+use Rattle.tree.proofs.Positions.{down-leaf, found-one}
 use borrow.Author.Needs.{needs}
 use native.Mathlib.Omega.{arith}
-use Prim.Native.Nat.{ℕ, _-_, _<_}
 use borrow.Fn.Kinds.{In}
 use borrow.Fn.PlainCycle.{Measures, is, falls, and}
 use Rattle.tree.proofs.descend.Reads as descend
@@ -16,352 +16,110 @@ use Rattle.tree.proofs.at_most.Reads as at-most-reads
 use Rattle.tree.proofs.child_node.Reads as child-node-reads
 use Rattle.tree.proofs.in_leaf.Reads as in-leaf-reads
 use Rattle.tree.proofs.in_node.Reads as in-node-reads
+use Rattle.tree.proofs.unit_below.Reads as unit-below-reads
 use Rattle.tree.proofs.+descend.{statement}
 use Rattle.tree.proofs.+descend.Tie.{close}
 
-abbrev μ-descend : Measures 1 descend-kinds.ps ℕ
+abbrev μ-descend : Measures 2 descend-kinds.ps ℕ
 μ-descend κs a = a .1 .1 .1 .0
 
-abbrev descend-at : ℕ → In 1 descend-kinds.ps
-descend-at t = and 1 descend-kinds.ps (is 1 descend-kinds.ps μ-descend t) descend.Pre
+abbrev descend-at : ℕ → In 2 descend-kinds.ps
+descend-at t = and 2 descend-kinds.ps (is 2 descend-kinds.ps μ-descend t) descend.Pre
 
-abbrev descend-below : ℕ → In 1 descend-kinds.ps
-descend-below t = and 1 descend-kinds.ps (falls 1 descend-kinds.ps _<_ μ-descend t) descend.Pre
+abbrev descend-below : ℕ → In 2 descend-kinds.ps
+descend-below t = and 2 descend-kinds.ps (falls 2 descend-kinds.ps _<_ μ-descend t) descend.Pre
 
-descend-in-leaf-requires : (t : ℕ) → descend-lts.Need-in-leaf-requires (
+-- what the calls in the body ask and say
+abbrev claims : ℕ → descend-lts.Claims
+claims t = (
   in-leaf-reads.Asked,
   in-leaf-reads.Learnt,
-  descend-below t,
-  descend.Post,
   in-node-reads.Asked,
   in-node-reads.Learnt,
   child-node-reads.Asked,
   child-node-reads.Learnt,
   at-most-reads.Asked,
   at-most-reads.Learnt,
-) (descend-at t) descend.Post
-descend-in-leaf-requires t c κs =
-    let g = c .before .before in
-    let a = g .args in
-    down-leaf (a .d) (a .k) _ (a .width) (a .under) (a .first .0) (a .a) (a .r) (rw (c .if1 .taken) at (g .pre .1))
-
-descend-returns : (t : ℕ) → descend-lts.Need-returns (
-  in-leaf-reads.Asked,
-  in-leaf-reads.Learnt,
+  unit-below-reads.Asked,
+  unit-below-reads.Learnt,
   descend-below t,
   descend.Post,
-  in-node-reads.Asked,
-  in-node-reads.Learnt,
-  child-node-reads.Asked,
-  child-node-reads.Learnt,
-  at-most-reads.Asked,
-  at-most-reads.Learnt,
-) (descend-at t) descend.Post
-descend-returns t c =
-    let g = c .before .before .before in
-    let a = g .args in
-    let e = down-one (a .d) (a .k) _ (a .width) (a .under) (a .first .0) (a .a) (a .r) (rw (c .before .if1 .taken) at (g .pre .1)) in
-    subst (λ (x : ℕ). Found (a .index .now) (a .d) (a .k) (a .t) (a .a) x (c .in-leaf .result)) (sym e) (c .in-leaf .ensures)
+)
 
-descend-div-u : (t : ℕ) → descend-lts.Need-div-u (
-  in-leaf-reads.Asked,
-  in-leaf-reads.Learnt,
-  descend-below t,
-  descend.Post,
-  in-node-reads.Asked,
-  in-node-reads.Learnt,
-  child-node-reads.Asked,
-  child-node-reads.Learnt,
-  at-most-reads.Asked,
-  at-most-reads.Learnt,
-) (descend-at t) descend.Post
-descend-div-u t c = search needs
+module _ (t : ℕ) where
+  -- ---- a leaf
+  in-leaf-requires : descend-lts.Need-in-leaf-requires (claims t) (descend-at t) descend.Post
+  in-leaf-requires c κs = down-leaf (rw (c .before .if1 .taken) at (c .before .before .pre .1))
 
-descend-sub-descend : (t : ℕ) → descend-lts.Need-sub-descend (
-  in-leaf-reads.Asked,
-  in-leaf-reads.Learnt,
-  descend-below t,
-  descend.Post,
-  in-node-reads.Asked,
-  in-node-reads.Learnt,
-  child-node-reads.Asked,
-  child-node-reads.Learnt,
-  at-most-reads.Asked,
-  at-most-reads.Learnt,
-) (descend-at t) descend.Post
-descend-sub-descend t c = search needs
+  returns : descend-lts.Need-returns (claims t) (descend-at t) descend.Post
+  returns c =
+      let arm = c .before .before in
+      found-one (rw (arm .if1 .taken) at (arm .before .pre .1)) (c .in-leaf .ensures)
 
-descend-sub-descend-2 : (t : ℕ) → descend-lts.Need-sub-descend-2 (
-  in-leaf-reads.Asked,
-  in-leaf-reads.Learnt,
-  descend-below t,
-  descend.Post,
-  in-node-reads.Asked,
-  in-node-reads.Learnt,
-  child-node-reads.Asked,
-  child-node-reads.Learnt,
-  at-most-reads.Asked,
-  at-most-reads.Learnt,
-) (descend-at t) descend.Post
-descend-sub-descend-2 t c =
-    let g = c .before .before .before in
-    let a = g .args in
-    let h = raised (a .d) (a .k) _ (a .level) (a .width) (a .under) (a .first .0) (a .a) (a .r) (omega arith) (g .pre .1) in
-    under-low (a .d) (a .k) _ (a .level - 1) (a .width) (a .under) (a .first .0) (a .a) (a .r) h
+  -- ---- a node, and then its child: the point where j separators were counted
+  in-node-requires : descend-lts.Need-in-node-requires (claims t) (descend-at t) descend.Post
+  in-node-requires c κs = down-node (raised (omega arith) (c .before .before .pre .1))
 
-descend-descend-requires : (t : ℕ) → descend-lts.Need-descend-requires (
-  in-leaf-reads.Asked,
-  in-leaf-reads.Learnt,
-  descend-below t,
-  descend.Post,
-  in-node-reads.Asked,
-  in-node-reads.Learnt,
-  child-node-reads.Asked,
-  child-node-reads.Learnt,
-  at-most-reads.Asked,
-  at-most-reads.Learnt,
-) (descend-at t) descend.Post
-descend-descend-requires t c κs =
-    let g = c .before .before .before in
-    let a = g .args in
-    let h = raised (a .d) (a .k) _ (a .level) (a .width) (a .under) (a .first .0) (a .a) (a .r) (omega arith) (g .pre .1) in
-    (omega arith, down-skip (a .d) (a .k) _ (a .level - 1) (a .width) (a .under) (a .first .0) (a .a) (a .r) h (omega arith))
+  down : (n : descend-lts.After-in-node (claims t) (descend-at t) descend.Post)
+      → let a = n .before .before .before .args in Down (a .d) (a .k) (length (a .index .now .now)) (suc (a .level - 1)) (a .u) (a .under) (a .first .0) (a .a) (a .r)
+  down n = raised (omega arith) (n .before .before .before .pre .1)
 
-descend-returns-2 : (t : ℕ) → descend-lts.Need-returns-2 (
-  in-leaf-reads.Asked,
-  in-leaf-reads.Learnt,
-  descend-below t,
-  descend.Post,
-  in-node-reads.Asked,
-  in-node-reads.Learnt,
-  child-node-reads.Asked,
-  child-node-reads.Learnt,
-  at-most-reads.Asked,
-  at-most-reads.Learnt,
-) (descend-at t) descend.Post
-descend-returns-2 t c = search needs
+  child-node-requires : descend-lts.Need-child-node-requires (claims t) (descend-at t) descend.Post
+  child-node-requires n κs = omega (arith, child-small (down n) (n .in-node .result) (n .in-node .ensures .upto))
 
-descend-in-node-requires : (t : ℕ) → descend-lts.Need-in-node-requires (
-  in-leaf-reads.Asked,
-  in-leaf-reads.Learnt,
-  descend-below t,
-  descend.Post,
-  in-node-reads.Asked,
-  in-node-reads.Learnt,
-  child-node-reads.Asked,
-  child-node-reads.Learnt,
-  at-most-reads.Asked,
-  at-most-reads.Learnt,
-) (descend-at t) descend.Post
-descend-in-node-requires t c κs =
-    let g = c .before .before .before in
-    let a = g .args in
-    let h = raised (a .d) (a .k) _ (a .level) (a .width) (a .under) (a .first .0) (a .a) (a .r) (omega arith) (g .pre .1) in
-    down-node (a .d) (a .k) _ (a .level - 1) (a .width) (a .under) (a .first .0) (a .a) (a .r) h (omega arith)
+  mul-past : descend-lts.Need-mul-past (claims t) (descend-at t) descend.Post
+  mul-past c =
+      let n = c .before in
+      omega (arith, child-inside (down n) (n .in-node .result) (n .in-node .ensures .upto))
 
-descend-child-node-requires : (t : ℕ) → descend-lts.Need-child-node-requires (
-  in-leaf-reads.Asked,
-  in-leaf-reads.Learnt,
-  descend-below t,
-  descend.Post,
-  in-node-reads.Asked,
-  in-node-reads.Learnt,
-  child-node-reads.Asked,
-  child-node-reads.Learnt,
-  at-most-reads.Asked,
-  at-most-reads.Learnt,
-) (descend-at t) descend.Post
-descend-child-node-requires t c κs =
-    let g = c .before .before .before .before in
-    let a = g .args in
-    let h = raised (a .d) (a .k) _ (a .level) (a .width) (a .under) (a .first .0) (a .a) (a .r) (omega arith) (g .pre .1) in
-    omega (arith, child-small (a .d) (a .k) _ (a .level - 1) (a .width) (a .under) (a .first .0) (a .a) (a .r) h (c .before .if2 .left) (c .in-node .result) (c .in-node .ensures .upto))
+  sub-at-most : descend-lts.Need-sub-at-most (claims t) (descend-at t) descend.Post
+  sub-at-most c =
+      let n = c .before in
+      omega (arith, child-inside (down n) (n .in-node .result) (n .in-node .ensures .upto))
 
-descend-mul-at-most : (t : ℕ) → descend-lts.Need-mul-at-most (
-  in-leaf-reads.Asked,
-  in-leaf-reads.Learnt,
-  descend-below t,
-  descend.Post,
-  in-node-reads.Asked,
-  in-node-reads.Learnt,
-  child-node-reads.Asked,
-  child-node-reads.Learnt,
-  at-most-reads.Asked,
-  at-most-reads.Learnt,
-) (descend-at t) descend.Post
-descend-mul-at-most t c =
-    let g = c .before .before .before .before .before in
-    let a = g .args in
-    let h = raised (a .d) (a .k) _ (a .level) (a .width) (a .under) (a .first .0) (a .a) (a .r) (omega arith) (g .pre .1) in
-    omega (arith, child-inside (a .d) (a .k) _ (a .level - 1) (a .width) (a .under) (a .first .0) (a .a) (a .r) h (c .before .before .if2 .left) (c .before .in-node .result) (c .before .in-node .ensures .upto))
+  at-most-requires : descend-lts.Need-at-most-requires (claims t) (descend-at t) descend.Post
+  at-most-requires c κs = search needs
 
-descend-sub-at-most : (t : ℕ) → descend-lts.Need-sub-at-most (
-  in-leaf-reads.Asked,
-  in-leaf-reads.Learnt,
-  descend-below t,
-  descend.Post,
-  in-node-reads.Asked,
-  in-node-reads.Learnt,
-  child-node-reads.Asked,
-  child-node-reads.Learnt,
-  at-most-reads.Asked,
-  at-most-reads.Learnt,
-) (descend-at t) descend.Post
-descend-sub-at-most t c =
-    let g = c .before .before .before .before .before in
-    let a = g .args in
-    let h = raised (a .d) (a .k) _ (a .level) (a .width) (a .under) (a .first .0) (a .a) (a .r) (omega arith) (g .pre .1) in
-    omega (arith, child-inside (a .d) (a .k) _ (a .level - 1) (a .width) (a .under) (a .first .0) (a .a) (a .r) h (c .before .before .if2 .left) (c .before .in-node .result) (c .before .in-node .ensures .upto))
+  unit-below-requires : descend-lts.Need-unit-below-requires (claims t) (descend-at t) descend.Post
+  unit-below-requires c κs =
+      let n = c .before .before in
+      (omega arith, (omega arith, n .before .before .before .pre .1 .unit-is))
 
-descend-at-most-requires : (t : ℕ) → descend-lts.Need-at-most-requires (
-  in-leaf-reads.Asked,
-  in-leaf-reads.Learnt,
-  descend-below t,
-  descend.Post,
-  in-node-reads.Asked,
-  in-node-reads.Learnt,
-  child-node-reads.Asked,
-  child-node-reads.Learnt,
-  at-most-reads.Asked,
-  at-most-reads.Learnt,
-) (descend-at t) descend.Post
-descend-at-most-requires t c κs = search needs
+  sub-descend : descend-lts.Need-sub-descend (claims t) (descend-at t) descend.Post
+  sub-descend c = search needs
 
-descend-sub-descend-3 : (t : ℕ) → descend-lts.Need-sub-descend-3 (
-  in-leaf-reads.Asked,
-  in-leaf-reads.Learnt,
-  descend-below t,
-  descend.Post,
-  in-node-reads.Asked,
-  in-node-reads.Learnt,
-  child-node-reads.Asked,
-  child-node-reads.Learnt,
-  at-most-reads.Asked,
-  at-most-reads.Learnt,
-) (descend-at t) descend.Post
-descend-sub-descend-3 t c = search needs
+  sub-descend-2 : descend-lts.Need-sub-descend-2 (claims t) (descend-at t) descend.Post
+  sub-descend-2 c = under-low (down (c .before .before .before))
 
-descend-sub-descend-4 : (t : ℕ) → descend-lts.Need-sub-descend-4 (
-  in-leaf-reads.Asked,
-  in-leaf-reads.Learnt,
-  descend-below t,
-  descend.Post,
-  in-node-reads.Asked,
-  in-node-reads.Learnt,
-  child-node-reads.Asked,
-  child-node-reads.Learnt,
-  at-most-reads.Asked,
-  at-most-reads.Learnt,
-) (descend-at t) descend.Post
-descend-sub-descend-4 t c =
-    let g = c .before .before .before .before .before .before in
-    let a = g .args in
-    let h = raised (a .d) (a .k) _ (a .level) (a .width) (a .under) (a .first .0) (a .a) (a .r) (omega arith) (g .pre .1) in
-    under-low (a .d) (a .k) _ (a .level - 1) (a .width) (a .under) (a .first .0) (a .a) (a .r) h
+  add-descend : descend-lts.Need-add-descend (claims t) (descend-at t) descend.Post
+  add-descend c =
+      let n = c .before .before .before in
+      omega (arith, child-inside (down n) (n .in-node .result) (n .in-node .ensures .upto), leaves-few (down n))
 
-descend-mul-descend : (t : ℕ) → descend-lts.Need-mul-descend (
-  in-leaf-reads.Asked,
-  in-leaf-reads.Learnt,
-  descend-below t,
-  descend.Post,
-  in-node-reads.Asked,
-  in-node-reads.Learnt,
-  child-node-reads.Asked,
-  child-node-reads.Learnt,
-  at-most-reads.Asked,
-  at-most-reads.Learnt,
-) (descend-at t) descend.Post
-descend-mul-descend t c =
-    let g = c .before .before .before .before .before .before in
-    let a = g .args in
-    let h = raised (a .d) (a .k) _ (a .level) (a .width) (a .under) (a .first .0) (a .a) (a .r) (omega arith) (g .pre .1) in
-    omega (arith, child-inside (a .d) (a .k) _ (a .level - 1) (a .width) (a .under) (a .first .0) (a .a) (a .r) h (c .before .before .before .if2 .left) (c .before .before .in-node .result) (c .before .before .in-node .ensures .upto))
+  descend-requires : descend-lts.Need-descend-requires (claims t) (descend-at t) descend.Post
+  descend-requires c κs =
+      let n = c .before .before .before in
+      (omega arith, rw (c .before .at-most .ensures) (down-child (down n) (n .in-node .result) (n .in-node .ensures .upto) (c .before .before .child-node .ensures) (c .unit-below .ensures)))
 
-descend-add-descend : (t : ℕ) → descend-lts.Need-add-descend (
-  in-leaf-reads.Asked,
-  in-leaf-reads.Learnt,
-  descend-below t,
-  descend.Post,
-  in-node-reads.Asked,
-  in-node-reads.Learnt,
-  child-node-reads.Asked,
-  child-node-reads.Learnt,
-  at-most-reads.Asked,
-  at-most-reads.Learnt,
-) (descend-at t) descend.Post
-descend-add-descend t c =
-    let g = c .before .before .before .before .before .before in
-    let a = g .args in
-    let h = raised (a .d) (a .k) _ (a .level) (a .width) (a .under) (a .first .0) (a .a) (a .r) (omega arith) (g .pre .1) in
-    omega (arith, child-inside (a .d) (a .k) _ (a .level - 1) (a .width) (a .under) (a .first .0) (a .a) (a .r) h (c .before .before .before .if2 .left) (c .before .before .in-node .result) (c .before .before .in-node .ensures .upto), leaves-few (a .d) (a .k) _ (a .level - 1) (a .width) (a .under) (a .first .0) (a .a) (a .r) h)
-
-descend-descend-requires-2 : (t : ℕ) → descend-lts.Need-descend-requires-2 (
-  in-leaf-reads.Asked,
-  in-leaf-reads.Learnt,
-  descend-below t,
-  descend.Post,
-  in-node-reads.Asked,
-  in-node-reads.Learnt,
-  child-node-reads.Asked,
-  child-node-reads.Learnt,
-  at-most-reads.Asked,
-  at-most-reads.Learnt,
-) (descend-at t) descend.Post
-descend-descend-requires-2 t c κs =
-    let g = c .before .before .before .before .before .before in
-    let a = g .args in
-    let h = raised (a .d) (a .k) _ (a .level) (a .width) (a .under) (a .first .0) (a .a) (a .r) (omega arith) (g .pre .1) in
-    (omega arith, rw (c .at-most .ensures) (down-child (a .d) (a .k) _ (a .level - 1) (a .width) (a .under) (a .first .0) (a .a) (a .r) h (c .before .before .before .if2 .left) (c .before .before .in-node .result) (c .before .before .in-node .ensures .upto) (c .before .child-node .result .0) (c .before .child-node .ensures)))
-
-descend-returns-3 : (t : ℕ) → descend-lts.Need-returns-3 (
-  in-leaf-reads.Asked,
-  in-leaf-reads.Learnt,
-  descend-below t,
-  descend.Post,
-  in-node-reads.Asked,
-  in-node-reads.Learnt,
-  child-node-reads.Asked,
-  child-node-reads.Learnt,
-  at-most-reads.Asked,
-  at-most-reads.Learnt,
-) (descend-at t) descend.Post
-descend-returns-3 t c =
-    let g = c .before .before .before .before .before .before .before in
-    let a = g .args in
-    let h = raised (a .d) (a .k) _ (a .level) (a .width) (a .under) (a .first .0) (a .a) (a .r) (omega arith) (g .pre .1) in
-    found-child (a .d) (a .k) _ (a .level - 1) (a .width) (a .under) (a .first .0) (a .a) (a .r) h (c .before .before .before .before .if2 .left) (c .before .before .before .in-node .result) (c .before .before .before .in-node .ensures .upto) (a .index .now) (a .t) (c .descend2 .result) (c .before .before .before .in-node .ensures)
-    (rw (c .before .at-most .ensures) at (c .descend2 .ensures))
+  returns-2 : descend-lts.Need-returns-2 (claims t) (descend-at t) descend.Post
+  returns-2 c =
+      let n = c .before .before .before .before in
+      found-child (down n) (n .in-node .result) (n .in-node .ensures .upto) (n .in-node .ensures) (rw (c .before .before .at-most .ensures) at (c .descend .ensures))
 
 pub +descend-spec : {M : Type 1} → statement M
-+descend-spec = close μ-descend λ t. descend-lts.spec (
-  in-leaf-reads.Asked,
-  in-leaf-reads.Learnt,
-  descend-below t,
-  descend.Post,
-  in-node-reads.Asked,
-  in-node-reads.Learnt,
-  child-node-reads.Asked,
-  child-node-reads.Learnt,
-  at-most-reads.Asked,
-  at-most-reads.Learnt,
-)
++descend-spec = close μ-descend λ t. descend-lts.spec (claims t)
     (descend-at t)
     descend.Post
-    (descend-in-leaf-requires t)
-    (descend-returns t)
-    (descend-div-u t)
-    (descend-sub-descend t)
-    (descend-sub-descend-2 t)
-    (descend-descend-requires t)
-    (descend-returns-2 t)
-    (descend-in-node-requires t)
-    (descend-child-node-requires t)
-    (descend-mul-at-most t)
-    (descend-sub-at-most t)
-    (descend-at-most-requires t)
-    (descend-sub-descend-3 t)
-    (descend-sub-descend-4 t)
-    (descend-mul-descend t)
-    (descend-add-descend t)
-    (descend-descend-requires-2 t)
-    (descend-returns-3 t)
+    (in-leaf-requires t)
+    (returns t)
+    (in-node-requires t)
+    (child-node-requires t)
+    (mul-past t)
+    (sub-at-most t)
+    (at-most-requires t)
+    (unit-below-requires t)
+    (sub-descend t)
+    (sub-descend-2 t)
+    (add-descend t)
+    (descend-requires t)
+    (returns-2 t)

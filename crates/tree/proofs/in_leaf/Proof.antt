@@ -28,7 +28,7 @@ node-word-requires : tie.Need-node-word-requires
 node-word-requires c κs =
     let g = c .before .before in
     let a = g .args in
-    omega (arith, leaf-number (a .d) (a .k) _ (a .first .0) (a .a) (g .pre), g .pre .order-low, g .pre .order-high)
+    omega (arith, leaf-number (g .pre), g .pre .order-low, g .pre .order-high)
 
 cast-cut : tie.Need-cast-cut
 cast-cut c = search needs
@@ -37,7 +37,7 @@ cut-requires : tie.Need-cut-requires
 cut-requires c κs =
     let g = c .before .before .before in
     let a = g .args in
-    omega (arith, leaf-long (a .d) (a .k) _ (a .first .0) (a .a) (g .pre), c .node-word .ensures .0, c .before .at-most .ensures)
+    omega (arith, leaf-long (g .pre), c .node-word .ensures .0, c .before .at-most .ensures)
 
 cast-result : tie.Need-cast-result
 cast-result c = search needs
@@ -51,7 +51,7 @@ returns c =
     let a = g .args in
     let e : c .before .node-word .result ≡ nodeWord (a .d) (a .first .0) = c .before .node-word .ensures .0 in
     let f : c .before .before .at-most .result ≡ min (a .d - 1) (a .k - a .a * (a .d - 1)) = c .before .before .at-most .ensures in
-    found-leaf (a .d) (a .k) _ (a .first .0) (a .a) (g .pre) (a .index .now) (a .t) (c .cut .result)
+    found-leaf (g .pre)
     (subst (λ (x : ℕ). Cut (a .index .now) (nodeWord (a .d) (a .first .0)) x (a .t) (c .cut .result)) f (subst (λ (x : ℕ). Cut (a .index .now) x (c .before .before .at-most .result) (a .t) (c .cut .result)) e (c .cut .ensures)))
 
 pub in-leaf-spec : {M : Type 1} → statement M

@@ -8,10 +8,7 @@ use Rattle.tree.proofs.position.Statement.{statement}
 use Rattle.tree.proofs.position.Tie as tie
 
 returns : tie.Need-returns
-returns c =
-    let g = c .before .before in
-    let a = g .args in
-    position-none (a .index .now) (a .d) (a .k) (a .t) (c .if1 .taken)
+returns c = position-none (c .if1 .taken)
 
 cast-order : tie.Need-cast-order
 cast-order c = search needs
@@ -34,35 +31,28 @@ div-n c = search needs
 top-of-requires : tie.Need-top-of-requires
 top-of-requires c κs =
     let g = c .before .before in
-    let a = g .args in
-    (g .pre .order-low, (g .pre .order-high, le-trans (leaves-le (a .d) (a .k) (g .pre .order-low)) (g .pre .few)))
+    (g .pre .order-low, (g .pre .order-high, le-trans (leaves-le (g .args .d) (g .args .k) (g .pre .order-low)) (g .pre .few)))
 
 cast-descend : tie.Need-cast-descend
 cast-descend c = search needs
 
 descend-requires : tie.Need-descend-requires
 descend-requires c κs =
-    let g = c .before .before .before in
-    let a = g .args in
-    let top = c .top-of in
-    down-top (a .d) (a .k) _ (g .pre) (omega arith) (top .result .level) (top .result .width) (top .result .under) (top .ensures .0) (top .ensures .1 .0) (top .ensures .1 .1)
+    let top = c .before .top-of in
+    down-top (c .before .before .before .before .pre) (omega arith) (top .ensures .0) (top .ensures .1 .0) (top .ensures .1 .1)
 
 returns-2 : tie.Need-returns-2
 returns-2 c =
-    let g = c .before .before .before .before .before in
-    let a = g .args in
-    let f = c .before .descend in
-    position-found (a .d) (a .k) _ (g .pre) (omega arith) (a .index .now) (a .t) (f .result) 0 (f .ensures) (omega arith)
+    let found = c .before in
+    position-found (found .before .before .before .before .before .pre) (omega arith) (found .descend .ensures) (omega arith)
 
-sub-t13 : tie.Need-sub-t13
-sub-t13 c = search needs
+sub-t14 : tie.Need-sub-t14
+sub-t14 c = search needs
 
 returns-3 : tie.Need-returns-3
 returns-3 c =
-    let g = c .before .before .before .before .before in
-    let a = g .args in
-    let f = c .before .descend in
-    position-found (a .d) (a .k) _ (g .pre) (omega arith) (a .index .now) (a .t) (f .result) _ (f .ensures) (omega arith)
+    let found = c .before in
+    position-found (found .before .before .before .before .before .pre) (omega arith) (found .descend .ensures) (omega arith)
 
 pub position-spec : {M : Type 1} → statement M
 position-spec =
@@ -79,5 +69,5 @@ position-spec =
     cast-descend
     descend-requires
     returns-2
-    sub-t13
+    sub-t14
     returns-3)
