@@ -5,7 +5,7 @@ use mathlib.Core.List.{List, [], _∷_}
 use mathlib.Core.Bool.{Bool, true, false, false≢true}
 use native.Mathlib.Omega.{arith}
 use native.Mathlib.Nat.{le-of-suc-le-suc, not-suc-le-zero}
-use lib.ListN.{length, getD, take, drop, replicate, length-drop}
+use lib.ListN.{length, getD, take, drop, replicate, length-drop, getD-replicate}
 use lib.Seq.{getD-take, getD-drop, length-take-le, take-all}
 use borrow.Author.Tests.{eq-eqb}
 use Rattle.codec.specs.Parts.{same, zeros}
@@ -71,11 +71,6 @@ take-zeros (suc k) (suc n) h = ap (λ (xs : List ℕ). 0 ∷ xs) (take-zeros k n
 
 -- ---- zero entries
 
-nth-same : {A : Type 0} (n i : ℕ) (x y : A) → i < n → getD (replicate n x) i y ≡ x
-nth-same zero i x y h = absurd (not-suc-le-zero h)
-nth-same (suc n) zero x y h = refl
-nth-same (suc n) (suc i) x y h = nth-same n i x y (le-of-suc-le-suc h)
-
 entries-all-zero : (es : List Entry) → ((i : ℕ) → i < length es → getD es i noEntry ≡ noEntry) → entriesZero es ≡ true
 unfolding entriesZero
 entries-all-zero [] h = refl
@@ -128,7 +123,7 @@ module _ (s : Numbers) (log index current : List ℕ) (c : Catalogue) (areas : L
             let g : drop (s .files) (take room catalogue) ≡ replicate (room - s .files) noEntry = rw lent (f .rest-is) in
             let h : getD (drop (s .files) (take room catalogue)) (i - s .files) noEntry ≡ getD (c .entries) (s .files + (i - s .files)) noEntry = rest-get (i - s .files) (omega arith) in
             ap (λ (j : ℕ). getD (c .entries) j noEntry) (sym e) ∙ sym h ∙ ap (λ (es : List Entry). getD es (i - s .files) noEntry) g
-            ∙ nth-same (room - s .files) (i - s .files) noEntry noEntry (omega arith)
+            ∙ getD-replicate (room - s .files) (i - s .files) noEntry noEntry (omega arith)
 
     rest-zero : ZeroEntries (s .files) room (c .entries) → entriesZero (drop (s .files) (take room catalogue)) ≡ true
     rest-zero blank =

@@ -5,7 +5,7 @@ use mathlib.Core.Path.{_≡_, refl, sym, ap, _∙_}
 use mathlib.Core.List.{List, _++_, append-assoc}
 use mathlib.Core.Bool.{Bool, true, false}
 use native.Mathlib.Omega.{arith}
-use lib.ListN.{length, take, drop, getD, replicate, length-append, length-replicate, take-append-drop, List·getD-append}
+use lib.ListN.{length, take, drop, replicate, length-append, length-replicate, take-append-drop, List·getD-append}
 use lib.Seq.{getD-take, length-take-le, take-take, take-append-le, drop-append-le, take-at, take-all}
 use lib.Dec.{leb}
 use borrow.Author.Tests.{leb-true, leb-false}
@@ -23,10 +23,6 @@ loaded-by-value lent {c} e k h l =
       lent = l;
       entries-are = λ i j. rw e (getD-take 16 (lent ++ replicate 16 noEntry) i noEntry (omega arith) ∙ List·getD-append lent (replicate 16 noEntry) noEntry i (omega arith));
     }
-
-pub loaded-fewer : {entries : List Entry} {k : ℕ} {c : Catalogue} → Loaded entries k c → (j : ℕ) → j ≤ k → Loaded entries j c
-loaded-fewer has j h =
-    record { few = omega (arith, has .few); lent = omega (arith, has .lent); entries-are = λ i l. has .entries-are i (omega arith) }
 
 -- ---- the first sixteen entries, and what is written back
 

@@ -26,11 +26,12 @@ use Rattle.model.specs.Calls.{Start, begun, StartFits, CallFits, Accepted, Reac
 use Rattle.model.specs.Demands.{HoldsLog, AuditExact}
 use Rattle.model.specs.Facts.{AuditedFacts, InOrder}
 use Rattle.model.proofs.AuditLaws.{audited-facts, audited-sound, capacity-entries}
+use Rattle.model.proofs.FileLaws.{entries-files-in}
 use Rattle.claims.proofs.Regions.{answered, none-asked, length-emptied}
 use Rattle.claims.proofs.Opened.{open-state}
 use Rattle.claims.proofs.SecondDemands.{reads, same-log, opens-alike}
 use Rattle.claims.proofs.FilesKept.{drop-replicate}
-use Rattle.claims.proofs.FileFronts.{front-files, front-areas, front-entries, NextFile, next-file}
+use Rattle.claims.proofs.FileFronts.{front-files, front-areas, NextFile, next-file}
 use Rattle.claims.proofs.Kept.{areas-within, length-files}
 use Rattle.claims.proofs.Lists.{reachable-in-order}
 
@@ -168,7 +169,7 @@ module _ (st : State) (o : InOrder st) where
       let k = st .numbers .files in
       let xs = m .catalogue in
       let none = replicate slots noEntry in
-      let entries : map entryOf (filesOf st) ≡ take k xs = front-entries R (m .areas) 0 (take k xs) in
+      let entries : map entryOf (filesOf st) ≡ take k xs = entries-files-in R (m .areas) 0 (take k xs) in
       let long : 0 + length (map entryOf (filesOf st)) ≡ k = omega (arith, length-map (filesOf st) entryOf, length-files st facts) in
       let past : 0 + length none ≡ slots = omega (arith, length-replicate slots noEntry) in
       let behind : drop k (emptied R m) ≡ drop k (take slots xs) ++ drop slots xs =

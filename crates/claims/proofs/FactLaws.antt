@@ -1,11 +1,11 @@
--- What the facts of an audited state come to for the calls: the number of its records, its rows now, its table as rows, the
--- room of its index and the packed tree that it holds. Assumes nothing.
-use Prim.Native.Nat.{ℕ, _*_, _^_, _≤_, _<_}
+-- What the facts of an audited state come to for the calls: the number of its records, its rows now, the room of its
+-- index and the packed tree that it holds. Assumes nothing.
+use Prim.Native.Nat.{ℕ, _^_, _≤_, _<_}
 use mathlib.Core.Path.{_≡_, ap, _∙_}
 use mathlib.Core.List.{List, [], _∷_}
 use mathlib.Core.Bool.{Bool, true, false, cond}
 use native.Mathlib.Omega.{arith}
-use lib.ListN.{length, take, drop}
+use lib.ListN.{length, drop}
 use lib.Dec.{eqb}
 use Rattle.codec.proofs.Numbers.{are-bytes-drop}
 use Rattle.model.specs.Records.{Rec}
@@ -19,14 +19,11 @@ use Rattle.model.specs.Queries.{rowsAt}
 use Rattle.model.specs.Demands.{IndexIsPacked}
 use Rattle.model.proofs.PageLaws.{length-page-times}
 use Rattle.model.proofs.RecordLaws.{length-records}
-use Rattle.model.proofs.ReportLaws.{asc-timeslice}
 use Rattle.model.proofs.SmallLaws.{below-timeslice}
 use Rattle.model.proofs.TimeLaws.{timeslice-rows, timeslice-last}
 use Rattle.tree.proofs.Written.{with-packed}
 use Rattle.log.specs.Widths.{AllFit}
 use Rattle.log.proofs.Appends.{all-fit-records}
-use Rattle.rows.specs.OnRows.{TableIs}
-use Rattle.pages.specs.Paged.{Indexed}
 use Rattle.model.specs.Facts.{AuditedFacts}
 
 -- the number of a state's records is that of its list
@@ -68,17 +65,6 @@ module _ (st : State) (f : AuditedFacts st) where
   pub rows-few : (t : ℕ) → length (rowsAt st t) ≤ st .numbers .limit
   rows-few = timeslice-rows (st .numbers .limit) (logOf st) (f .log-legal)
 
-  -- the table's 8 × R bytes are the table of the rows now
-  pub table-rows : Lendable (st .memory) → TableIs (st .numbers .limit) (rowsNow st) (st .numbers .live) (take (8 * st .numbers .limit) (st .memory .table))
-  table-rows l =
-      record {
-        bytes-are = f .table-is;
-        count-is = f .live-is;
-        ascending = asc-timeslice (st .numbers .last) (logOf st);
-        small = rows-small st l (st .numbers .last);
-        few = rows-few (st .numbers .last);
-      }
-
   -- ---- the index
 
   pub key-count : length (keysOf st) ≡ pagesOf (st .numbers .page) (st .numbers .records)
@@ -89,8 +75,3 @@ module _ (st : State) (f : AuditedFacts st) where
 
   pub index-packed : IndexIsPacked st
   index-packed = rw (f .index-is) at (with-packed (st .numbers .order) (f .limits .order-low) (keysOf st) (st .memory .index) key-room)
-
-  pub index-indexed : Indexed (st .numbers .order) (st .numbers .page) (st .numbers .records) (length (st .memory .index))
-  index-indexed =
-      let l = f .limits in
-      record { order-low = l .order-low; order-high = l .order-high; page-low = l .page-low; page-high = l .page-high; records-few = l .records-few; long = l .index-long }

@@ -1,18 +1,18 @@
 -- The first files of those that a state holds: read again by their own entries, the bytes of their areas, and the next one
 -- of them put in behind. Assumes nothing.
-use Prim.Native.Nat.{ℕ, suc, _+_, _*_, _<_}
-use mathlib.Core.Path.{_≡_, refl, ap}
+use Prim.Native.Nat.{ℕ, suc, _*_, _<_}
+use mathlib.Core.Path.{_≡_, refl, sym, ap, _∙_}
 use mathlib.Core.List.{List, [], _∷_, _++_, map}
 use mathlib.Core.Bool.{false}
 use native.Mathlib.Omega.{arith}
-use lib.ListN.{length, drop}
-use lib.Seq.{take-add, drop-drop}
+use lib.ListN.{length, length-map}
 use borrow.Author.Tests.{lt-ltb}
 use Rattle.codec.specs.Parts.{part}
 use Rattle.model.specs.declared.Entry.{Entry}
 use Rattle.model.specs.Records.{Rec}
 use Rattle.model.specs.Files.{File, filesIn, areasBytes, entryOf, isKept, fileIn}
 use Rattle.model.proofs.Compare.{lt-eqb}
+use Rattle.model.proofs.FileLaws.{areas-files-in}
 use Rattle.model.specs.Facts.{FileIs, FilesAre}
 
 -- ---- read by their own entries
@@ -40,19 +40,9 @@ module _ (R : ℕ) (areas : List ℕ) where
       whole
 
   pub front-areas : (gs hs : List File) (i : ℕ) (es : List Entry) → filesIn R areas i es ≡ gs ++ hs → areasBytes gs ≡ part (8 * R * i) (8 * R * length gs) areas
-  unfolding filesIn areasBytes
-  front-areas [] hs i es e = let none : 8 * R * 0 ≡ 0 = omega arith in rw none
-  front-areas (g ∷ gs) hs i [] e = absurd (nil-cons e)
-  front-areas (g ∷ gs) hs i (x ∷ xs) e =
-      let area : part (8 * R * i) (8 * R) areas ≡ g .area = ap (λ (f : File). f .area) (cons-first e) in
-      let next : 8 * R * suc i ≡ 8 * R * i + 8 * R = omega arith in
-      let long : 8 * R * suc (length gs) ≡ 8 * R + 8 * R * length gs = omega arith in
-      rw (← area, front-areas gs hs (suc i) xs (cons-rest e), next, long, take-add (8 * R) (8 * R * length gs) (drop (8 * R * i) areas), drop-drop (8 * R) (8 * R * i) areas)
-
-  pub front-entries : (i : ℕ) (es : List Entry) → map entryOf (filesIn R areas i es) ≡ es
-  unfolding filesIn
-  front-entries i [] = refl
-  front-entries i (e ∷ es) = ap (λ (xs : List Entry). e ∷ xs) (front-entries (suc i) es)
+  front-areas gs hs i es e =
+      ap areasBytes (sym (front-files gs hs i es e)) ∙ areas-files-in R areas i (map entryOf gs)
+      ∙ ap (λ (n : ℕ). part (8 * R * i) (8 * R * n) areas) (length-map gs entryOf)
 
 -- ---- the next file goes behind those before it
 

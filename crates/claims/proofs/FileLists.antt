@@ -16,6 +16,7 @@ use Rattle.model.specs.Timeslice.{timeslice}
 use Rattle.model.specs.Legal.{legal}
 use Rattle.model.specs.Files.{File, filesIn, noFile, areasBytes, entryOf}
 use Rattle.model.proofs.TimeLaws.{timeslice-rows}
+use Rattle.model.proofs.FileLaws.{map-append, areas-append}
 use Rattle.rows.proofs.TableBytes.{length-table-bytes, are-bytes-table}
 use Rattle.model.specs.Facts.{FilesAre}
 use Rattle.claims.proofs.Regions.{EntriesFit, entries-nil, entries-cons}
@@ -74,21 +75,7 @@ unfolding FilesFit areasBytes
 length-areas R [] h = omega arith
 length-areas R (f ∷ fs) h = length-append (f .area) (areasBytes fs) ∙ rw (h .0 .area-long, length-areas R fs (h .1)) (omega arith)
 
-pub areas-append : (fs gs : List File) → areasBytes (fs ++ gs) ≡ areasBytes fs ++ areasBytes gs
-unfolding areasBytes
-areas-append [] gs = refl
-areas-append (f ∷ fs) gs = rw (areas-append fs gs, append-assoc)
-
-pub map-append : {A B : Type 0} (f : A → B) (xs ys : List A) → map f (xs ++ ys) ≡ map f xs ++ map f ys
-map-append f [] ys = refl
-map-append f (x ∷ xs) ys = rw (map-append f xs ys)
-
 -- ---- written, then read
-
-pub length-files-in : (R : ℕ) (areas : List ℕ) (i : ℕ) (es : List Entry) → length (filesIn R areas i es) ≡ length es
-unfolding filesIn
-length-files-in R areas i [] = refl
-length-files-in R areas i (e ∷ es) = ap suc (length-files-in R areas (suc i) es)
 
 file-eq : {f : File} {xs : List ℕ} → xs ≡ f .area → _≡_ {A = File} (record { entry = f .entry; area = xs }) f
 file-eq {f} {xs} e = let g : _≡_ {A = File} (record { entry = f .entry; area = xs }) (record { entry = f .entry; area = f .area }) = cc in g

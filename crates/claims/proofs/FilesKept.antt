@@ -15,7 +15,7 @@ use Rattle.model.specs.Records.{Rec}
 use Rattle.model.specs.Memory.{noEntry}
 use Rattle.model.specs.Files.{File, noFile, entryOf, isKept, fileIn, staying}
 use Rattle.model.specs.Facts.{FileIs, FilesAre}
-use Rattle.claims.proofs.FileLists.{map-append}
+use Rattle.model.proofs.FileLaws.{map-append, map-replicate}
 
 -- ---- a file more
 
@@ -71,25 +71,12 @@ module _ (R last : ℕ) (rs : List Rec) where
       by true a b = (from-later (h .0) (omega (arith, h .0 .later)), a)
       by false a b = b
 
-pub length-staying : (stays : Entry → Bool) (fs : List File) → length (staying stays fs) ≤ length fs
-unfolding staying
-length-staying stays [] = omega arith
-length-staying stays (x ∷ xs) = by (length-staying stays xs) (stays (x .entry))
-  where
-    by : length (staying stays xs) ≤ length xs → (q : Bool) → length (cond q (x ∷ staying stays xs) (staying stays xs)) ≤ suc (length xs)
-    by ih true = omega arith
-    by ih false = omega arith
-
 -- ---- zero entries behind them
 
 pub drop-replicate : {A : Type 0} (k n : ℕ) (x : A) → drop k (replicate n x) ≡ replicate (n - k) x
 drop-replicate zero n x = let e : n ≡ n - 0 = omega arith in ap (λ (j : ℕ). replicate j x) e
 drop-replicate (suc k) zero x = let e : 0 ≡ 0 - suc k = omega arith in ap (λ (j : ℕ). replicate j x) e
 drop-replicate (suc k) (suc n) x = let e : n - k ≡ suc n - suc k = omega arith in drop-replicate k n x ∙ ap (λ (j : ℕ). replicate j x) e
-
-pub map-replicate : {A B : Type 0} (f : A → B) (n : ℕ) (x : A) → map f (replicate n x) ≡ replicate n (f x)
-map-replicate f zero x = refl
-map-replicate f (suc n) x = rw (map-replicate f n x)
 
 -- of a catalogue with zero entries from `files` up to its capacity, the front overwritten by files and by no files
 pub rest-back : (R : ℕ) (catalogue : List Entry) (slots files : ℕ) (gs : List File) (j : ℕ) → files ≤ length gs + j → length gs + j ≤ slots

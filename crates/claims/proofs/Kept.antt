@@ -19,9 +19,10 @@ use Rattle.model.specs.Files.{File, filesOf, noFile, areasBytes, entryOf, withF
 use Rattle.model.proofs.Compare.{and-left, and-right}
 use Rattle.model.specs.Facts.{FileIs, FilesAre, AuditedFacts, InOrder}
 use Rattle.model.proofs.AuditLaws.{audited-facts, audited-of-facts, capacity-entries, capacity-areas}
+use Rattle.model.proofs.FileLaws.{length-files-in, length-staying}
 use Rattle.claims.proofs.Regions.{asked, entries-put, entries-of-lendable}
-use Rattle.claims.proofs.FileLists.{FilesFit, files-fit, files-fit-append, no-files-fit, entries-of-files, bytes-of-files, length-areas, length-files-in, files-back}
-use Rattle.claims.proofs.FilesKept.{length-file-in, files-with, files-staying, length-staying, rest-back}
+use Rattle.claims.proofs.FileLists.{FilesFit, files-fit, files-fit-append, no-files-fit, entries-of-files, bytes-of-files, length-areas, files-back}
+use Rattle.claims.proofs.FilesKept.{length-file-in, files-with, files-staying, rest-back}
 
 pub capacity-few : (R entries bytes : ℕ) → capacity R entries bytes ≤ 16
 unfolding capacity

@@ -12,7 +12,6 @@ pub mod Kept
 pub mod Lists
 pub mod FileFronts
 pub mod Exact
-pub mod Refused
 pub mod NetChanges
 pub mod Outsets
 pub mod SameLogs

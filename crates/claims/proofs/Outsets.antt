@@ -1,26 +1,24 @@
--- The outset that an audited state uses (demand 3), for a table and for a view: it is a held table, its distance is the one
+-- The outset that an audited state uses for a table (demand 3): it is a held table, its distance is the one
 -- reported, and no held table is nearer. Assumes nothing.
 use Prim.Native.Nat.{ℕ, _*_, _≤_, _<_}
 use mathlib.Core.Path.{_≡_, refl}
 use mathlib.Core.Logic.{inl, inr}
-use mathlib.Core.List.{List, [], List·Memᴰ}
+use mathlib.Core.List.{List, List·Memᴰ}
 use mathlib.Core.Bool.{Bool, true, false, cond}
 use native.Mathlib.Omega.{arith}
 use lib.ListN.{length}
 use lib.Dec.{leb, ltb}
-use borrow.Author.Tests.{leb-true, leb-false, le-leb}
+use borrow.Author.Tests.{leb-true, leb-false}
 use Rattle.model.specs.declared.Held.{Held}
 use Rattle.model.specs.declared.Side.the-variants.{Earlier, Later}
-use Rattle.model.specs.Answers.{answers, firstNo}
 use Rattle.model.specs.Memory.{State, keysOf}
 use Rattle.model.specs.Outset.{held, filesHeld, currentTable, apart, measure, distance, chosen, chooseBy, earlierFor, laterFor, outsetFor}
-use Rattle.model.specs.Queries.{timeQuestions, tableSaid, tableOf, viewOf}
+use Rattle.model.specs.Queries.{tableSaid, tableOf}
 use Rattle.model.specs.Audit.{Audited}
 use Rattle.model.specs.Demands.{candidate, Apart, OutsetIsNearest}
-use Rattle.model.proofs.AuditLaws.{audited-sound}
 use Rattle.model.proofs.KeyLaws.{page-position-le}
 use Rattle.catalogue.proofs.Nearest.{nearest, chosen-held}
-use Rattle.claims.proofs.Regions.{answered, none-asked}
+use Rattle.claims.proofs.Regions.{answered}
 use Rattle.claims.proofs.SecondDemands.{table-answered}
 
 -- ---- the larger less the smaller
@@ -83,14 +81,3 @@ module _ (st : State) (t : ℕ) where
         reported = rw (← outset-candidate, outset-distance) (apart-is x (measure st (outsetFor st t .outset .time)));
         nearest = λ c d m e. rw (apart-only d x (measure st (c .time)) e) (outset-nearest h c m);
       }
-
-  -- ---- the view, which hands back that outset's rows
-
-  pub view-accepted : Audited st → t ≤ st .numbers .last → firstNo (timeQuestions st t) ≡ 0
-  view-accepted ok h = answered 0 _ _ (audited-sound st ok) (answered 11 _ [] (le-leb _ _ h) none-asked)
-
-  pub view-is-outset : Audited st → t ≤ st .numbers .last
-      → viewOf st t .outcome
-      ≡ answers (record { place = outsetFor st t .outset .place; rows = outsetFor st t .outset .rows; side = outsetFor st t .side; distance = outsetFor st t .distance })
-  unfolding viewOf
-  view-is-outset ok h = rw (view-accepted ok h)

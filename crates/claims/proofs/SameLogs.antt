@@ -27,12 +27,6 @@ module _ (st other : State) (o : InOrder st) (o′ : InOrder other) (one : OneLo
       (part-of-take 0 24 (24 + 24 * st .numbers .records) (st .memory .log) (other .memory .log) (omega arith) (one .same-bytes)
       ∙ audited-facts other (o′ .audited) .header-is)
 
-  pub same-order : st .numbers .order ≡ other .numbers .order
-  same-order = sym (reads .order-is) ∙ reads-other .order-is
-
-  pub same-page : st .numbers .page ≡ other .numbers .page
-  same-page = sym (reads .page-is) ∙ reads-other .page-is
-
   pub same-limit : st .numbers .limit ≡ other .numbers .limit
   same-limit = sym (reads .limit-is) ∙ reads-other .limit-is
 

@@ -5,11 +5,11 @@ use mathlib.Core.Path.{_≡_, refl, sym, ap, _∙_}
 use mathlib.Core.List.{List, [], _∷_, _++_}
 use native.Mathlib.Omega.{arith}
 use native.Mathlib.Nat.{zero-add, add-zero, suc-add, add-suc, add-assoc, one-mul, mul-add, mul-assoc, pow-succ', div-add-mod, mod-lt, pow-le-pow-right, add-comm}
-use lib.ListN.{length, take, drop, getD, List·getD-append}
+use lib.ListN.{length, take, drop, getD}
 use lib.Seq.{drop-cons, getD-take, getD-drop, getD-append-add}
 use Rattle.codec.specs.LittleEndian.{number, bytes, AreBytes}
 use Rattle.codec.specs.Parts.{part, put, zeros}
-use Rattle.codec.proofs.PartLaws.{part-put, part-put-within, part-put-before, part-put-after, put-append}
+use Rattle.codec.proofs.PartLaws.{part-put-within, part-put-before, part-put-after, put-append}
 
 -- ---- halves
 
@@ -59,13 +59,6 @@ number-part w xs at =
 pub number-of-part : (w : ℕ) (xs : List ℕ) (at : ℕ) (ys : List ℕ) (bt : ℕ) → part at w xs ≡ part bt w ys → number w xs at ≡ number w ys bt
 number-of-part w xs at ys bt e = number-part w xs at ∙ ap (λ (l : List ℕ). number w l 0) e ∙ sym (number-part w ys bt)
 
--- reading inside the first of two joined lists, and inside the second
-pub number-append-left : (w : ℕ) (xs ys : List ℕ) (at : ℕ) → at + w ≤ length xs → number w (xs ++ ys) at ≡ number w xs at
-unfolding number
-number-append-left zero xs ys at h = refl
-number-append-left (suc w) xs ys at h =
-    rw (List·getD-append xs ys 0 at (omega arith), number-append-left w xs ys (suc at) (omega arith))
-
 pub number-append-right : (w : ℕ) (xs ys : List ℕ) (at : ℕ) → number w (xs ++ ys) (length xs + at) ≡ number w ys at
 unfolding number
 number-append-right zero xs ys at = refl
@@ -97,12 +90,6 @@ put-halves j k n xs at h =
     ap (λ (m : ℕ). put (put xs at low) (at + m) high) (sym (length-bytes j (n % 256 ^ j)))
     ∙ put-append xs at low high h
     ∙ ap (put xs at) (sym (bytes-halves j k n))
-
--- a number that was written is read back
-pub number-put : (w n : ℕ) (xs : List ℕ) (at : ℕ) → at ≤ length xs → n < 256 ^ w → number w (put xs at (bytes w n)) at ≡ n
-number-put w n xs at h k =
-    let e : part at w (put xs at (bytes w n)) ≡ bytes w n = ap (λ (m : ℕ). part at m (put xs at (bytes w n))) (sym (length-bytes w n)) ∙ part-put xs at (bytes w n) h in
-    number-part w (put xs at (bytes w n)) at ∙ rw e (sym (number-append-left w (bytes w n) [] 0 (rw length-bytes (omega arith))) ∙ number-bytes w n [] k)
 
 -- a number inside what was written, before it and after it
 pub number-put-within : (w i : ℕ) (xs : List ℕ) (at : ℕ) (vs : List ℕ) → at ≤ length xs → i + w ≤ length vs → number w (put xs at vs) (at + i) ≡ number w vs i
@@ -172,9 +159,6 @@ unfolding AreBytes
 are-bytes-take zero xs h = are-bytes-nil
 are-bytes-take (suc n) [] h = are-bytes-nil
 are-bytes-take (suc n) (x ∷ xs) h = are-bytes-cons x (take n xs) (h 0) (are-bytes-take n xs (λ i. h (suc i)))
-
-pub are-bytes-part : (at k : ℕ) (xs : List ℕ) → AreBytes xs → AreBytes (part at k xs)
-are-bytes-part at k xs h = are-bytes-take k (drop at xs) (are-bytes-drop at xs h)
 
 pub are-bytes-put : (xs : List ℕ) (at : ℕ) (vs : List ℕ) → AreBytes xs → AreBytes vs → AreBytes (put xs at vs)
 are-bytes-put xs at vs h k =

@@ -6,7 +6,7 @@ use mathlib.Core.List.{List, [], _∷_, _++_, append-assoc, append-nil}
 use native.Mathlib.Omega.{arith}
 use native.Mathlib.Numerals.{add-one}
 use native.Mathlib.Nat.{zero-add, add-zero, suc-add, add-assoc}
-use lib.ListN.{length, take, drop, getD, set, length-append, length-drop, length-replicate, take-append-drop, List·getD-append}
+use lib.ListN.{length, take, drop, getD, set, length-append, length-drop, length-replicate, take-append-drop}
 use lib.Seq.{length-take-le, getD-take, getD-drop, take-nil, take-append-le, drop-append-le, take-take, drop-drop, take-add, take-at, drop-at, set-split, drop-length, sets, sets-eq}
 use borrow.Rule.Slice.PartMut.{putMid}
 use Rattle.codec.specs.Parts.{zeros, part, put}
@@ -92,12 +92,6 @@ module _ {A : Type 0} where
   pub part-put-after : (i k : ℕ) (xs : List A) (at : ℕ) (vs : List A) → at + length vs ≤ i → at ≤ length xs → part i k (put xs at vs) ≡ part i k xs
   part-put-after i k xs at vs h g = ap (take k) (drop-put i xs at vs h g)
 
-  -- the same for one element
-  pub getD-put-within : (i : ℕ) (xs : List A) (at : ℕ) (vs : List A) (d : A) → at ≤ length xs → i < length vs → getD (put xs at vs) (at + i) d ≡ getD vs i d
-  getD-put-within i xs at vs d h g =
-      sym (getD-drop at (put xs at vs) i d)
-      ∙ rw (drop-at (take at xs) (vs ++ drop (at + length vs) xs) at (length-take-le at xs h)) (List·getD-append vs _ d i g)
-
   pub getD-put-before : (i : ℕ) (xs : List A) (at : ℕ) (vs : List A) (d : A) → i < at → at ≤ length xs → getD (put xs at vs) i d ≡ getD xs i d
   getD-put-before i xs at vs d h g =
       sym (getD-take at (put xs at vs) i d h) ∙ rw (take-put at xs at vs (omega arith) g) (getD-take at xs i d h)
@@ -126,11 +120,6 @@ module _ {A : Type 0} where
   pub put-sets : (xs : List A) (at : ℕ) (vs : List A) → at + length vs ≤ length xs → sets xs at vs ≡ put xs at vs
   put-sets xs at vs h = sets-eq vs xs at h ∙ append-assoc (take at xs) vs (drop (at + length vs) xs)
 
-  -- a second write over the same stretch
-  pub put-put : (xs : List A) (at : ℕ) (us vs : List A) → length us ≡ length vs → at ≤ length xs → put (put xs at us) at vs ≡ put xs at vs
-  put-put xs at us vs e h =
-      rw (take-put at xs at us (omega arith) h, drop-put (at + length vs) xs at us (omega arith) h)
-
   -- a second write right behind the first
   pub put-append : (xs : List A) (at : ℕ) (us vs : List A) → at ≤ length xs → put (put xs at us) (at + length us) vs ≡ put xs at (us ++ vs)
   put-append xs at us vs h =
@@ -139,19 +128,6 @@ module _ {A : Type 0} where
         drop-put (at + length us + length vs) xs at us (omega arith) h,
         length-append us vs,
         add-assoc at (length us) (length vs),
-      )
-      (simp append-assoc)
-
-  -- two writes apart from one another, in either order
-  pub put-swap : (xs : List A) (at : ℕ) (us : List A) (bt : ℕ) (vs : List A) → at + length us ≤ bt → bt + length vs ≤ length xs
-      → put (put xs at us) bt vs ≡ put (put xs bt vs) at us
-  put-swap xs at us bt vs h k =
-      rw (
-        take-put-past bt xs at us h (omega arith),
-        drop-put (bt + length vs) xs at us (omega arith) (omega arith),
-        take-put at xs bt vs (omega arith) (omega arith),
-        drop-append-le (at + length us) (take bt xs) (vs ++ drop (bt + length vs) xs) (rw (length-take-le bt xs (omega arith)) h),
-        take-take at bt xs (omega arith),
       )
       (simp append-assoc)
 
@@ -170,12 +146,6 @@ module _ {A : Type 0} where
       rw (add-assoc, ← drop-drop n a xs)
       (ap (drop n) (sym (take-append-drop k d)) ∙ drop-append-le n (take k d) (drop k d) (rw (length-part a k xs h) g)) in
       rw (e, take-take b k d (omega arith), take-add a b xs, tail) (simp append-assoc)
-
-  -- a part that runs to the end, `&mut xs[a..]`, of which the callee wrote the front
-  pub put-front : (a : ℕ) (xs zs : List A) {ys : List A} → a + length zs ≤ length xs → ys ≡ put (part a (length xs - a) xs) 0 zs
-      → putMid a (length xs - a) xs ys ≡ put xs a zs
-  put-front a xs zs {ys} h e =
-      put-within a (length xs - a) xs 0 zs (omega arith) (omega arith) e ∙ ap (λ (n : ℕ). put xs n zs) (add-zero a)
 
 -- a part that was lent, `&mut xs[a..e]`, and came back filled with zeros
 pub put-zeros : (a e : ℕ) (xs : List ℕ) {ys : List ℕ} → a ≤ e → e ≤ length xs → ys ≡ zeros (length (part a (e - a) xs)) → putMid a (e - a) xs ys ≡ put xs a (zeros (e - a))

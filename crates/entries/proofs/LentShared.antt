@@ -1,7 +1,7 @@
 -- A `&κ mut [T]` that is lent as a `&κ′ [T]` for a call, and comes back as it was; and the same as two rules for a walk whose locals
 -- stand first: the lifetime is made, the slice lent for it and put behind the rest, and both undone. It says nothing of the crate.
 -- Assumes `Given`.
-use mathlib.Core.Path.{_≡_, refl}
+use mathlib.Core.Path.{refl}
 use Prim.Native.Nat.{ℕ}
 use mathlib.Core.List.{List, [], _∷_, _++_}
 use lib.ListN.{length}

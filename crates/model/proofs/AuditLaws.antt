@@ -37,7 +37,7 @@ capacity-areas R entries bytes = le-trans (min-le-right 16 _) (min-le-right entr
 
 -- ---- zero entries
 
-entry-zero : {e : Entry} → e .time ≡ 0 → e .rows ≡ 0 → e ≡ noEntry
+pub entry-zero : {e : Entry} → e .time ≡ 0 → e .rows ≡ 0 → e ≡ noEntry
 entry-zero {e} t r =
     let g : _≡_ {A = Entry} (record { time = e .time; rows = e .rows }) (record { time = 0; rows = 0 }) = cc in
     g

@@ -1,25 +1,13 @@
--- Keys at or before a time: on rising keys they are the first ones, so a search that finds where they end has
--- found their number. Assumes nothing.
-use Prim.Native.Nat.{ℕ, zero, suc, _+_, _-_, _≤_, _<_}
-use mathlib.Core.Path.{_≡_, refl, sym, ap, _∙_}
-use mathlib.Core.List.{List, [], _∷_, _++_}
+-- Keys at or before a time: how many they are, and that on rising keys they are the first ones. Assumes nothing.
+use Prim.Native.Nat.{ℕ, zero, suc, _≤_, _<_}
+use mathlib.Core.Path.{_≡_, refl}
+use mathlib.Core.List.{List, [], _∷_}
 use mathlib.Core.Bool.{Bool, true, false, cond}
 use native.Mathlib.Omega.{arith}
 use lib.ListN.{length, getD}
-use lib.Dec.{leb, ltb}
-use borrow.Author.Tests.{le-leb, lt-leb, leb-true, leb-false, ltb-true, ltb-false}
+use lib.Dec.{leb}
+use borrow.Author.Tests.{lt-leb, leb-true, leb-false}
 use Rattle.model.specs.Tree.{Rising, keysUpTo, pagePosition}
-use Rattle.model.proofs.Compare.{Compared, less, same, more, compared}
-
-pub keys-up-to-append : (xs ys : List ℕ) (t : ℕ) → keysUpTo (xs ++ ys) t ≡ keysUpTo xs t + keysUpTo ys t
-unfolding keysUpTo
-keys-up-to-append [] ys t = omega arith
-keys-up-to-append (x ∷ xs) ys t = by (keys-up-to-append xs ys t) (leb x t)
-  where
-    by : keysUpTo (xs ++ ys) t ≡ keysUpTo xs t + keysUpTo ys t → (q : Bool)
-        → cond q (suc (keysUpTo (xs ++ ys) t)) (keysUpTo (xs ++ ys) t) ≡ cond q (suc (keysUpTo xs t)) (keysUpTo xs t) + keysUpTo ys t
-    by ih true = omega arith
-    by ih false = omega arith
 
 pub keys-up-to-le : (keys : List ℕ) (t : ℕ) → keysUpTo keys t ≤ length keys
 unfolding keysUpTo
@@ -49,15 +37,6 @@ keys-up-to-none : (keys : List ℕ) (t : ℕ) → ((i : ℕ) → i < length keys
 unfolding keysUpTo
 keys-up-to-none [] t h = refl
 keys-up-to-none (x ∷ xs) t h = rw (lt-leb x t (h 0 (omega arith))) (keys-up-to-none xs t (λ i g. h (suc i) (omega arith)))
-
--- where the first k keys are at or before t and the others after it, k is their number
-pub keys-up-to-is : (keys : List ℕ) (t k : ℕ) → k ≤ length keys → ((i : ℕ) → i < k → getD keys i 0 ≤ t)
-    → ((i : ℕ) → k ≤ i → i < length keys → t < getD keys i 0) → keysUpTo keys t ≡ k
-unfolding keysUpTo
-keys-up-to-is keys t zero h before after = keys-up-to-none keys t (λ i g. after i (omega arith) g)
-keys-up-to-is [] t (suc k) h before after = absurd (omega arith)
-keys-up-to-is (x ∷ xs) t (suc k) h before after =
-    rw (le-leb x t (before 0 (omega arith))) (ap suc (keys-up-to-is xs t k (omega arith) (λ i g. before (suc i) (omega arith)) (λ i g l. after (suc i) (omega arith) (omega arith))))
 
 -- ---- rising keys
 
@@ -90,35 +69,6 @@ keys-from (x ∷ xs) t up i h l = by (keys-from xs t (rising-tail x xs up)) (leb
     by ih true e (suc i) g l = let k : suc (keysUpTo xs t) ≤ suc i = rw e at g in ih i (omega arith) (omega arith)
     by ih false e zero g l = leb-false _ _ e
     by ih false e (suc i) g l = rising-later x xs t up (leb-false _ _ e) i (omega arith)
-
--- a search that finds where the keys at or before t end has found their number
-pub keys-up-to-cut : (keys : List ℕ) (t k : ℕ) → Rising keys → k ≤ length keys → ((i : ℕ) → suc i ≡ k → getD keys i 0 ≤ t) → (k < length keys → t < getD keys k 0)
-    → keysUpTo keys t ≡ k
-keys-up-to-cut keys t k up h before after = keys-up-to-is keys t k h low high
-  where
-    low : (i : ℕ) → i < k → getD keys i 0 ≤ t
-    low i g = by (compared (suc i) k)
-      where
-        by : Compared (suc i) k → getD keys i 0 ≤ t
-        by (less l) = omega (arith, before (k - 1) (omega arith), up i (k - 1) (omega arith) (omega arith))
-        by (same e) = before i e
-        by (more l) = absurd (omega arith)
-
-    high : (i : ℕ) → k ≤ i → i < length keys → t < getD keys i 0
-    high i g l = by (compared k i)
-      where
-        by : Compared k i → t < getD keys i 0
-        by (less w) = omega (arith, after (omega arith), up k i w l)
-        by (same e) = rw e at (after (omega arith))
-        by (more w) = absurd (omega arith)
-
--- a key at or before t counts, a key after it does not
-pub key-counts : (keys : List ℕ) (t i : ℕ) → Rising keys → i < length keys → leb (getD keys i 0) t ≡ ltb i (keysUpTo keys t)
-key-counts keys t i up l = by (ltb i (keysUpTo keys t)) refl
-  where
-    by : (q : Bool) → ltb i (keysUpTo keys t) ≡ q → leb (getD keys i 0) t ≡ ltb i (keysUpTo keys t)
-    by true e = le-leb _ _ (keys-before keys t up i (ltb-true i (keysUpTo keys t) e)) ∙ sym e
-    by false e = lt-leb _ _ (keys-from keys t up i (ltb-false i (keysUpTo keys t) e) l) ∙ sym e
 
 pub page-position-le : (keys : List ℕ) (t u : ℕ) → t ≤ u → pagePosition keys t ≤ pagePosition keys u
 page-position-le keys t u h = omega (arith, keys-up-to-later keys t u h)

@@ -9,7 +9,6 @@ pub mod ReportedLaws
 pub mod LegalLaws
 pub mod WrongLaws
 pub mod TimeLaws
-pub mod WalkLaws
 pub mod KeyLaws
 pub mod PageCounts
 pub mod PageLaws

@@ -146,18 +146,6 @@ without-in-other lo a r (x ∷ xs) h n =
         rw (e, ne-eqb _ _ n, f, in-front (suc (x .article)) r (without a xs) (asc-without (suc (x .article)) a xs (h .1)) (omega arith))
     by ih false e false f = rw (e, ne-eqb _ _ n, f, e)
 
-pub without-without : (a b : ℕ) (T : List Row) → without a (without b T) ≡ without b (without a T)
-unfolding without
-without-without a b [] = refl
-without-without a b (x ∷ xs) = by (without-without a b xs) (eqb (x .article) a) refl (eqb (x .article) b) refl
-  where
-    by : without a (without b xs) ≡ without b (without a xs) → (t : Bool) → eqb (x .article) a ≡ t → (u : Bool) → eqb (x .article) b ≡ u
-        → without a (without b (x ∷ xs)) ≡ without b (without a (x ∷ xs))
-    by ih true e true f = rw (e, f, ih)
-    by ih true e false f = rw (f, e, ih)
-    by ih false e true f = rw (e, f, ih)
-    by ih false e false f = rw (e, f, e, ih)
-
 -- ---- length
 
 pub length-in : (r : Row) (T : List Row) → length (putIn r T) ≡ suc (length T)

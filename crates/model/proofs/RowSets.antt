@@ -1,11 +1,11 @@
 -- Which rows and articles a list of rows has; ascending rows are fixed by that. Assumes nothing.
-use Prim.Native.Nat.{ℕ, suc, _≤_, _<_}
+use Prim.Native.Nat.{ℕ, suc, _≤_}
 use mathlib.Core.Path.{_≡_, refl, sym, ap, _∙_}
 use mathlib.Core.List.{List, [], _∷_}
 use mathlib.Core.Bool.{Bool, true, false, not, _&&_, _||_, false≢true}
 use native.Mathlib.Omega.{arith}
 use lib.Dec.{ltb, eqb}
-use borrow.Author.Tests.{eq-eqb, ne-eqb, eqb-true, eqb-false, ltb-true}
+use borrow.Author.Tests.{eq-eqb, ne-eqb, eqb-true, eqb-false}
 use Rattle.model.specs.Rows.{Row, row, sameRow, sameRows, lacks, hasRow, countOf, Ascending, putIn, without}
 use Rattle.model.proofs.Compare.{Compared, less, same, more, compared, eqb-self, lt-eqb, and-left, and-right, or-swap}
 use Rattle.model.proofs.RowLaws.{row-eq, asc-no-row}
@@ -45,18 +45,6 @@ lacks-without a (x ∷ xs) = by (lacks-without a xs) (eqb (x .article) a) refl
     by : lacks a (without a xs) ≡ true → (t : Bool) → eqb (x .article) a ≡ t → lacks a (without a (x ∷ xs)) ≡ true
     by ih true e = rw e ih
     by ih false e = rw (e, e) ih
-
--- of another article
-pub lacks-without-other : (a b : ℕ) (T : List Row) → (a ≡ b → ⊥) → lacks a (without b T) ≡ lacks a T
-unfolding lacks without
-lacks-without-other a b [] n = refl
-lacks-without-other a b (x ∷ xs) n = by (lacks-without-other a b xs n) (eqb (x .article) b) refl
-  where
-    by : lacks a (without b xs) ≡ lacks a xs → (t : Bool) → eqb (x .article) b ≡ t → lacks a (without b (x ∷ xs)) ≡ lacks a (x ∷ xs)
-    by ih true e =
-        let k : x .article ≡ b = eqb-true _ _ e in
-        rw (e, ne-eqb (x .article) a (λ f. n (sym f ∙ k))) ih
-    by ih false e = rw (e, ih)
 
 pub lacks-in : (a : ℕ) (r : Row) (T : List Row) → lacks a (putIn r T) ≡ (not (eqb (r .article) a) && lacks a T)
 unfolding putIn lacks
@@ -148,15 +136,6 @@ count-has lo r (x ∷ xs) h e = by (count-has (suc (x .article)) r xs (h .1)) (e
         let k : x .article ≡ r .article = eqb-true _ _ f in
         absurd (false≢true (sym (asc-no-row (suc (x .article)) r xs (h .1) (omega arith)) ∙ (rw (f, g) at e)))
     by ih false f u g = rw f (ih (rw f at e))
-
-pub count-in : (r : Row) (T : List Row) → countOf (r .article) (putIn r T) ≡ r .count
-unfolding putIn countOf
-count-in r [] = rw (eqb-self (r .article))
-count-in r (x ∷ xs) = by (count-in r xs) (ltb (x .article) (r .article)) refl
-  where
-    by : countOf (r .article) (putIn r xs) ≡ r .count → (t : Bool) → ltb (x .article) (r .article) ≡ t → countOf (r .article) (putIn r (x ∷ xs)) ≡ r .count
-    by ih true e = let k : x .article < r .article = ltb-true _ _ e in rw (e, lt-eqb k) ih
-    by ih false e = rw (e, eqb-self (r .article))
 
 -- ---- ascending rows are fixed by the rows they have
 

@@ -1,17 +1,17 @@
 -- The audit (01, "The questions, in order"). `auditOf` is what it answers, worked out from numbers and memory;
 -- that it says yes exactly for what some accepted calls leave is `AuditExact` of specs/Demands. Assumes nothing.
-use Prim.Native.Nat.{ℕ, _+_, _*_}
+use Prim.Native.Nat.{ℕ, _*_}
 use mathlib.Core.Path.{_≡_}
-use mathlib.Core.List.{List, [], _∷_, _++_, map}
-use mathlib.Core.Bool.{Bool, true, false, _&&_}
-use lib.ListN.{length, take, drop, replicate}
+use mathlib.Core.List.{List, [], _∷_}
+use mathlib.Core.Bool.{Bool, true, _&&_}
+use lib.ListN.{length, take, drop}
 use lib.Dec.{leb, ltb, eqb}
-use Rattle.codec.specs.Parts.{put, same}
+use Rattle.codec.specs.Parts.{same}
 use Rattle.model.specs.declared.Entry.{Entry}
 use Rattle.model.specs.Rows.{tableBytes}
 use Rattle.model.specs.Legal.{legal, lastTime}
 use Rattle.model.specs.Tree.{withTree}
-use Rattle.model.specs.Memory.{Memory, State, noEntry, logOf, rowsNow, keysOf, sound, capacityOf}
+use Rattle.model.specs.Memory.{State, logOf, rowsNow, keysOf, sound, capacityOf}
 use Rattle.model.specs.Queries.{rowsAt}
 use Rattle.model.specs.Files.{File, filesOf}
 

@@ -8,10 +8,9 @@ use mathlib.Core.List.{List, [], _∷_, List·Memᴰ}
 use mathlib.Core.Bool.{Bool, true, false, not, _&&_, _||_}
 use lib.ListN.{length, take}
 use lib.Dec.{eqb}
-use Rattle.codec.specs.LittleEndian.{AreBytes}
 use Rattle.model.specs.declared.Side.{Side}
 use Rattle.model.specs.declared.Side.the-variants.{Earlier, Later}
-use Rattle.model.specs.Answers.{Outcome, answers, TableSaid}
+use Rattle.model.specs.Answers.{answers, TableSaid}
 use Rattle.model.specs.Rows.{Row, hasRow, tableBytes, Ascending}
 use Rattle.model.specs.Timeslice.{InReport}
 use Rattle.model.specs.Numbering.{nodeWord}
@@ -26,7 +25,7 @@ use Rattle.model.specs.Queries.{Written, Netted, tableOf, rowsAt, netOf}
 use Rattle.model.specs.Files.{filesOf, isKept, keepOf, dropOf}
 use Rattle.model.specs.Audit.{Audited}
 use Rattle.model.specs.Promises.{isRefused}
-use Rattle.model.specs.Calls.{Start, StartFits, begun, Call, CallFits, AllFit, Said, written, netted, answerOf, step, run, Accepted, Reachable}
+use Rattle.model.specs.Calls.{Start, StartFits, begun, Call, AllFit, Said, written, netted, answerOf, step, run, Accepted, Reachable}
 use Rattle.model.specs.Chains.{Carried, RanFrom}
 
 -- the state that a start and a list of calls leave

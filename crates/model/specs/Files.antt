@@ -4,11 +4,11 @@ use Prim.Native.Nat.{ℕ, suc, _+_, _-_, _*_}
 use mathlib.Core.List.{List, [], _∷_, _++_, map}
 use mathlib.Core.Bool.{Bool, false, not, cond, _&&_, _||_}
 use lib.ListN.{length, take, replicate}
-use lib.Dec.{leb, ltb, eqb}
+use lib.Dec.{ltb, eqb}
 use Rattle.codec.specs.Parts.{zeros, put, part}
 use Rattle.model.specs.declared.Numbers.{Numbers}
 use Rattle.model.specs.declared.Entry.{Entry}
-use Rattle.model.specs.Answers.{Outcome, answers, Question, question, firstNo, unlessNo}
+use Rattle.model.specs.Answers.{answers, Question, question, firstNo, unlessNo}
 use Rattle.model.specs.Rows.{tableBytes}
 use Rattle.model.specs.Memory.{Memory, State, state, noEntry, standing, capacityOf}
 use Rattle.model.specs.Starts.{After, after}

@@ -1,8 +1,8 @@
 -- Net changes (01, "Count files"): lists of insertions and deletions, their bytes, what carrying one out does, and
 -- the net change from one table to another. Nothing here knows the store or the row limit. Assumes nothing.
-use Prim.Native.Nat.{ℕ, _+_, _*_, _-_}
+use Prim.Native.Nat.{ℕ, _*_, _-_}
 use mathlib.Core.List.{List, [], _∷_, _++_, map}
-use mathlib.Core.Bool.{Bool, true, false, not, cond, _&&_}
+use mathlib.Core.Bool.{Bool, cond, _&&_}
 use lib.ListN.{length}
 use lib.Dec.{ltb, eqb}
 use Rattle.codec.specs.LittleEndian.{bytes}

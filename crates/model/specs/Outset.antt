@@ -2,7 +2,7 @@
 -- contracts and demand 3 cite; the measure of nearness is a parameter. Assumes nothing.
 use Prim.Native.Nat.{ℕ, suc, _-_, max, min}
 use mathlib.Core.List.{List, [], _∷_, _++_}
-use mathlib.Core.Bool.{Bool, cond, _&&_}
+use mathlib.Core.Bool.{cond, _&&_}
 use lib.ListN.{take}
 use lib.Dec.{leb, ltb}
 use Rattle.model.specs.declared.Entry.{Entry}

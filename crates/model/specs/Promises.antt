@@ -16,7 +16,7 @@ use Rattle.model.specs.Answers.{Outcome, answers, refuses, refusesAt, Qu
 use Rattle.model.specs.Numbering.{nodeWord}
 use Rattle.model.specs.Tree.{nodesOf, NodesFrame}
 use Rattle.model.specs.Pages.{pagesOf}
-use Rattle.model.specs.Memory.{Memory, State, state, standing}
+use Rattle.model.specs.Memory.{State, state, standing}
 use Rattle.model.specs.Starts.{After, after}
 use Rattle.model.specs.Queries.{Written, Viewed, Netted, positionOf, tableOf, viewOf, netOf}
 use Rattle.model.specs.Audit.{Audited}

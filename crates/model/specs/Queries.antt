@@ -1,8 +1,8 @@
 -- Position, table, view and net change (01, "The questions, in order"): they change no part of the store. Promised
 -- where the audit passes the memory. Assumes nothing.
-use Prim.Native.Nat.{ℕ, _+_, _*_}
+use Prim.Native.Nat.{ℕ, _*_}
 use mathlib.Core.List.{List, [], _∷_, _++_}
-use mathlib.Core.Bool.{Bool, _&&_}
+use mathlib.Core.Bool.{_&&_}
 use lib.ListN.{length, take}
 use lib.Dec.{leb}
 use Rattle.codec.specs.Parts.{put, part}
@@ -14,7 +14,7 @@ use Rattle.model.specs.Timeslice.{timeslice}
 use Rattle.model.specs.Tree.{pagePosition}
 use Rattle.model.specs.Memory.{Memory, State, logOf, keysOf, standing}
 use Rattle.model.specs.Outset.{outsetFor}
-use Rattle.model.specs.NetChange.{Change, netChange, netChangeBytes}
+use Rattle.model.specs.NetChange.{netChange, netChangeBytes}
 
 -- "time at most the last? 12"
 abbrev pub timeHeld : State → ℕ → Question

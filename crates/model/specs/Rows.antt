@@ -1,6 +1,6 @@
 -- Tables as lists of rows (01, "Table"): "Rows are 8 bytes, article then count, ascending by article. A table
 -- fills 8 × R bytes, zeros after its rows." Assumes nothing.
-use Prim.Native.Nat.{ℕ, suc, _+_, _*_, _-_, _≤_}
+use Prim.Native.Nat.{ℕ, suc, _*_, _-_, _≤_}
 use mathlib.Core.List.{List, [], _∷_, _++_}
 use mathlib.Core.Bool.{Bool, true, false, not, cond, _&&_, _||_}
 use lib.ListN.{length}

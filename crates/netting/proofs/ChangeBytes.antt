@@ -2,10 +2,9 @@
 -- number by number. Assumes nothing.
 use Prim.Native.Nat.{ℕ, _+_, _*_, _-_, _≤_}
 use mathlib.Core.Path.{_≡_, refl, ap, _∙_}
-use mathlib.Core.List.{List, [], _∷_, _++_, append-assoc}
+use mathlib.Core.List.{List, [], _∷_, _++_}
 use native.Mathlib.Omega.{arith}
-use lib.ListN.{length, take, length-append, length-replicate}
-use lib.Seq.{take-at}
+use lib.ListN.{length, length-append, length-replicate}
 use Rattle.codec.specs.LittleEndian.{bytes}
 use Rattle.codec.specs.Parts.{put, zeros}
 use Rattle.codec.proofs.Numbers.{length-bytes}
@@ -26,12 +25,6 @@ unfolding netChangeBytes
 length-net-bytes R cs h =
     length-append (changesBytes cs) (zeros (24 * R - 12 * length cs))
     ∙ rw (length-changes-bytes cs, length-replicate {A = ℕ} (24 * R - 12 * length cs) 0) (omega arith)
-
--- the entries are the front, whatever stands behind
-pub take-net-bytes : (R : ℕ) (cs : List Change) (rest : List ℕ) → take (12 * length cs) (netChangeBytes R cs ++ rest) ≡ changesBytes cs
-unfolding netChangeBytes
-take-net-bytes R cs rest =
-    rw append-assoc (take-at (changesBytes cs) (zeros (24 * R - 12 * length cs) ++ rest) (12 * length cs) (length-changes-bytes cs))
 
 -- an entry's four numbers, each right behind the one before
 pub change-put : (xs : List ℕ) (at kind article count : ℕ) → at ≤ length xs

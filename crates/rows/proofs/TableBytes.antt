@@ -6,7 +6,7 @@ use mathlib.Core.List.{List, [], _∷_, _++_, append-assoc}
 use native.Mathlib.Omega.{arith}
 use native.Mathlib.Nat.{add-zero}
 use lib.ListN.{length, take, drop, length-append, length-replicate, take-append-drop}
-use lib.Seq.{take-at, drop-at, take-take, length-take-le, drop-cons}
+use lib.Seq.{take-at, drop-at, length-take-le, drop-cons}
 use Rattle.codec.specs.LittleEndian.{number, bytes, AreBytes}
 use Rattle.codec.specs.Parts.{zeros}
 use Rattle.codec.proofs.Numbers.{length-bytes, number-bytes, number-drop, number-append-right, are-bytes-nil, are-bytes-append, are-bytes-zeros, bytes-are-bytes}
@@ -81,14 +81,6 @@ table-bytes-rows R T = take-all-rows T (zeros (8 * R - 8 * length T))
 pub table-bytes-empty : (R : ℕ) → tableBytes R [] ≡ zeros (8 * R)
 unfolding tableBytes rowsBytes
 table-bytes-empty R = let e : 8 * R - 0 ≡ 8 * R = omega arith in ap zeros e
-
--- rows copied out of a table, with zeros behind them, are the table
-pub started : (R : ℕ) (T : List Row) (xs : List ℕ) → length T ≤ R → take (8 * R) xs ≡ tableBytes R T
-    → take (8 * length T) xs ++ zeros (8 * R - 8 * length T) ≡ tableBytes R T
-unfolding tableBytes
-started R T xs h e =
-    let front : take (8 * length T) xs ≡ rowsBytes T = sym (take-take (8 * length T) (8 * R) xs (omega arith)) ∙ ap (take (8 * length T)) e ∙ table-bytes-rows R T in
-    rw front
 
 pub are-bytes-rows : (T : List Row) → AreBytes (rowsBytes T)
 unfolding rowsBytes rowBytes

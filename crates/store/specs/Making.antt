@@ -3,10 +3,8 @@
 use Prim.Native.Nat.{ℕ}
 use mathlib.Core.Path.{_≡_}
 use mathlib.Core.List.{List}
-use Rattle.model.specs.declared.Numbers.{Numbers}
-use Rattle.model.specs.declared.Entry.{Entry}
 use Rattle.model.specs.Answers.{verdictOutcome, positionOutcome, tableOutcome, viewOutcome, netChangeOutcome}
-use Rattle.model.specs.Memory.{Memory, State, state}
+use Rattle.model.specs.Memory.{State}
 use Rattle.model.specs.Calls as calls
 use Rattle.model.specs.Chains.{Carried}
 use Rattle.tables.specs.Parts.{viewedPart}

@@ -1,6 +1,4 @@
 -- `model::Settings::checked` meets its contract: each return is the first test that fails. Assumes nothing.
-use Prim.Native.Nat.{ℕ}
-use mathlib.Core.Path.{_≡_, refl}
 use borrow.Author.Tests.{le-leb, lt-leb}
 use Rattle.model.specs.Answers.{refusal, firstNo, checkedOutcome}
 use Rattle.model.specs.Settings.{orderInRange, pageSizeInRange, rowLimitInRange, settingsOf}
