@@ -23,9 +23,10 @@ use Rattle.model.proofs.TimeLaws.{timeslice-rows}
 use Rattle.catalogue.specs.declared.Catalogue.{Catalogue}
 use Rattle.catalogue.specs.Files.{Loaded}
 use Rattle.netting.specs.Merge.{Merges}
+use Rattle.tables.proofs.LentFronts.{front-back, lent-beyond}
 use Rattle.comparing.specs.declared.Both.{Both}
 use Rattle.comparing.specs.Both.{BothWorkedOut}
-use Rattle.comparing.proofs.Workspace.{front-back, front-beyond, first-rows, second-rows, rows-of-time}
+use Rattle.comparing.proofs.Workspace.{first-rows, second-rows, rows-of-time}
 
 module _ (st : State) (a b : ℕ) (out work : List ℕ) where
   -- ---- refusals
@@ -93,8 +94,8 @@ module _ (st : State) (a b : ℕ) (out work : List ℕ) where
         record {
           asked = asked-answered st k q;
           refused = λ e. not-refused e;
-          output-framed = front-beyond _ out ys l ly;
-          workspace-framed = front-beyond _ work ws m lw;
+          output-framed = lent-beyond _ out ys l ly;
+          workspace-framed = lent-beyond _ work ws m lw;
           audited = λ ok.
               let is = both .on (st .memory .catalogue) has ok in
               let r = merged-rows ok in

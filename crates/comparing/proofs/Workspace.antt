@@ -1,21 +1,20 @@
 -- Two tables in one workspace: how they are laid there, and that their rows are read from there. Assumes nothing.
-use Prim.Native.Nat.{ℕ, _*_, _-_, _^_, _≤_, zero-le}
+use Prim.Native.Nat.{ℕ, _*_, _-_, _^_, _≤_}
 use mathlib.Core.Path.{_≡_, refl, sym, ap, _∙_}
 use mathlib.Core.List.{List, _++_, append-assoc}
 use native.Mathlib.Omega.{arith}
-use native.Mathlib.Nat.{zero-add, sub-zero}
+use native.Mathlib.Nat.{zero-add}
 use lib.ListN.{length, drop, length-append}
 use lib.Seq.{drop-at}
 use borrow.Rule.Slice.PartMut.{putMid}
 use Rattle.codec.specs.LittleEndian.{AreBytes}
 use Rattle.codec.specs.Parts.{part, put, zeros}
 use Rattle.codec.proofs.Numbers.{are-bytes-drop}
-use Rattle.codec.proofs.PartLaws.{length-part, length-put, drop-put, put-back, put-append, put-whole}
+use Rattle.codec.proofs.PartLaws.{length-part, put-back, put-append, put-whole}
 use Rattle.model.specs.declared.Numbers.{Numbers}
 use Rattle.model.specs.Memory.{State, logOf}
 use Rattle.model.specs.Rows.{Row, rowsBytes, tableBytes}
 use Rattle.model.specs.Queries.{rowsAt}
-use Rattle.model.specs.Promises.{Beyond}
 use Rattle.model.proofs.ReportLaws.{asc-timeslice}
 use Rattle.model.proofs.SmallLaws.{below-timeslice}
 use Rattle.rows.proofs.TableBytes.{take-all-rows, length-table-bytes}
@@ -23,26 +22,16 @@ use Rattle.walk.proofs.StartLaws.{small-records}
 use Rattle.catalogue.specs.declared.Catalogue.{Catalogue}
 use Rattle.tables.specs.declared.Worked.{Worked}
 use Rattle.tables.specs.Ways.{WorkedOut}
+use Rattle.tables.proofs.LentFronts.{front-back, lent-beyond}
 use Rattle.netting.specs.Merge.{RowsAre}
 use Rattle.comparing.specs.Both.{BothWorkedOut}
 
 -- ---- laid one behind the other
 
--- a part lent from the front, of k bytes, that came back as the bytes ys
-pub front-back : (k : ℕ) (xs ys : List ℕ) → length ys ≡ k → putMid 0 (k - 0) xs ys ≡ put xs 0 ys
-front-back k xs ys l = put-back 0 (k - 0) xs {ys = ys} {zs = ys} refl (rw sub-zero l)
-
-pub front-beyond : (k : ℕ) (xs ys : List ℕ) → k ≤ length xs → length ys ≡ k → Beyond k xs (putMid 0 (k - 0) xs ys)
-front-beyond k xs ys room l =
-    record {
-      same-length = ap length (front-back k xs ys l) ∙ length-put xs 0 ys (omega arith);
-      same-rest = ap (drop k) (front-back k xs ys l) ∙ drop-put k xs 0 ys (omega arith) zero-le;
-    }
-
 -- the second half of xs, after the first was lent and came back as ys
 pub second-half : (size : ℕ) (xs ys : List ℕ) → length xs ≡ 2 * size → length ys ≡ size → length (part size (2 * size - size) (putMid 0 (size - 0) xs ys)) ≡ size
 second-half size xs ys lx ly =
-    let same = front-beyond size xs ys (omega arith) ly .same-length in
+    let same = lent-beyond size xs ys (omega arith) ly .same-length in
     length-part size (2 * size - size) (putMid 0 (size - 0) xs ys) (omega arith) ∙ omega arith
 
 -- the two halves of xs were lent in turn, and came back as ys and zs

@@ -1,16 +1,12 @@
 -- The promises of position, table and view, from the answers to the questions and what the code says on any memory: one law
 -- for each return. Assumes nothing.
-use Prim.Native.Nat.{ℕ, _-_, _*_, _≤_, _<_, zero-le}
-use mathlib.Core.Path.{_≡_, refl, ap, _∙_}
+use Prim.Native.Nat.{ℕ, _-_, _*_, _≤_, _<_}
+use mathlib.Core.Path.{_≡_, refl, ap}
 use mathlib.Core.List.{List}
 use mathlib.Core.Bool.{true, false}
-use native.Mathlib.Omega.{arith}
-use native.Mathlib.Nat.{sub-zero}
-use lib.ListN.{length, take, drop}
+use lib.ListN.{length, take}
 use borrow.Author.Tests.{le-leb, lt-leb}
 use borrow.Rule.Slice.PartMut.{putMid}
-use Rattle.codec.specs.Parts.{put}
-use Rattle.codec.proofs.PartLaws.{length-put, drop-put, put-back}
 use Rattle.model.specs.declared.Numbers.{Numbers}
 use Rattle.model.specs.Answers.{refuses, answers, firstNo}
 use Rattle.model.specs.Memory.{State, logOf, sound}
@@ -28,6 +24,7 @@ use Rattle.tables.specs.declared.Worked.{Worked}
 use Rattle.tables.specs.Parts.{lent}
 use Rattle.tables.specs.Used.{NearestIs}
 use Rattle.tables.specs.Ways.{Ready, WorkedOut}
+use Rattle.tables.proofs.LentFronts.{front-back, lent-beyond}
 use Rattle.tables.proofs.Chosen.{describes, position-of}
 use Rattle.tables.proofs.Ways.{rows-part-lent}
 
@@ -96,17 +93,13 @@ module _ (st : State) (t : ℕ) (out : List ℕ) where
   unfolding tableOf firstNo isRefused
   table-answers c w {ys} q h room l has worked =
       let size = 8 * st .numbers .limit in
-      let written : putMid 0 (size - 0) out ys ≡ put out 0 ys = put-back 0 (size - 0) out {ys = ys} {zs = ys} refl (rw sub-zero l) in
       record {
         asked = asked-answered st _ q;
         refused = λ e. not-refused e;
-        framed = record {
-          same-length = ap length written ∙ length-put out 0 ys (omega arith);
-          same-rest = ap (drop size) written ∙ drop-put size out 0 ys (omega arith) zero-le;
-        };
+        framed = lent-beyond size out ys room l;
         audited = λ a.
             let is = worked .on (st .memory .catalogue) has a in
-            rw (written, q, le-leb _ _ h, le-leb _ _ room, is .0, is .1);
+            rw (front-back size out ys l, q, le-leb _ _ h, le-leb _ _ room, is .0, is .1);
       }
 
 -- ---- view
