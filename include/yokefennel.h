@@ -3,9 +3,9 @@
  * All memory is the caller's, and lent for one call at a time. Nothing is kept between calls but what is
  * in it and in the numbers, which pass by value: give each call the numbers that the last one answered.
  *
- * region   element   lengths that suffice
+ * region   element   lengths that suffice, as yk_lengths_for answers them
  * log      byte      24 for the header and 24 for each record, at most 65,536 of them
- * index    word      order - 1 for each node of the packed tree; 11 says that one or two more are needed
+ * index    word      order - 1 for each node of the packed tree
  * table    byte      8 x limit: the current table
  * entries  yk_entry  one for each count file, up to 16: the catalogue
  * areas    byte      8 x limit for each count file
@@ -37,6 +37,8 @@
  *              keep them again.
  * Count files  No call needs one. Entries and areas may have length 0: then keep is refused by 15, and all
  *              else works.
+ * Memory       yk_lengths_for answers what to lend for so many records and count files. With as much, no call
+ *              is refused for want of memory until there are more of them; with less of any, some call is.
  * At 11        An append may need two nodes, an inner one and a leaf.
  * Threads      The calls hold no state. Any number of stores may be used from any number of threads, one
  *              call at a time for each store.
@@ -54,6 +56,7 @@
 
 #include <stddef.h>
 #include <stdint.h>
+#include <string.h>
 
 #ifdef __cplusplus
 extern "C" {
@@ -141,11 +144,27 @@ typedef struct yk_net_change_answer {
     uint32_t entries; /* entries of the net change, 0 where refused */
 } yk_net_change_answer;
 
+/* How long each region must be. */
+typedef struct yk_lengths {
+    uint8_t question; /* an enum yk_question; all else is 0 where refused */
+    size_t log;       /* bytes */
+    size_t index;     /* words of 8 bytes */
+    size_t table;     /* bytes */
+    size_t entries;   /* yk_entry */
+    size_t areas;     /* bytes */
+    size_t out;       /* bytes, for a net change; a table takes a third of them */
+    size_t work;      /* bytes */
+} yk_lengths;
+
 /* A part of lent memory. */
 typedef struct yk_part {
     const uint8_t *bytes;
     size_t length;
 } yk_part;
+
+/* The lengths to lend for a store of these settings that is to hold so many records and count files: the least
+ * that suffice, see "Memory" above. Refuses by 2, 3, 4, by 5 (over 65,536 records) and by 15 (over 16 files). */
+yk_lengths yk_lengths_for(uint16_t order, uint16_t page, uint32_t limit, uint32_t records, uint32_t files);
 
 /* Starts an empty store: writes the header, zeroes table and catalogue. Refuses by 2, 3, 4, 5. */
 yk_change yk_fresh(uint16_t order, uint16_t page, uint32_t limit, uint8_t *log, size_t log_length,
@@ -299,6 +318,32 @@ typedef struct yk_step {
     uint32_t article;
     uint32_t count;
 } yk_step;
+
+/* The bytes of one block that has room for the five regions of a store. */
+static inline size_t yk_store_bytes(yk_lengths need) {
+    return 8 * need.index + sizeof(yk_entry) * need.entries + need.log + need.table + need.areas;
+}
+
+/* A store whose regions lie in a block of yk_store_bytes(need) bytes, aligned for a uint64_t as malloc's are. Of a
+ * null block nothing is lent, and yk_store_fresh is then refused by 5. */
+static inline yk_store yk_store_in(void *block, yk_lengths need) {
+    yk_store store;
+    memset(&store, 0, sizeof store);
+    if (block == NULL) {
+        return store;
+    }
+    store.index = (uint64_t *)block;
+    store.index_length = need.index;
+    store.entries = (yk_entry *)(store.index + need.index);
+    store.entries_length = need.entries;
+    store.log = (uint8_t *)(store.entries + need.entries);
+    store.log_length = need.log;
+    store.table = store.log + need.log;
+    store.table_length = need.table;
+    store.areas = store.table + need.table;
+    store.areas_length = need.areas;
+    return store;
+}
 
 /* A pointer that is not null. Nothing is read or written where it stands in for a null one. */
 static inline void *yk_lent_pointer(void *pointer) {

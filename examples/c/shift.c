@@ -7,25 +7,16 @@
 
 #include "yokefennel.h"
 
-/* The maker's choice, and the memory that goes with it. The index has 2 words a page and ORDER more, which is
- * always enough: see docs/GUIDE.md. */
-enum { ORDER = 8, PAGE = 16, LIMIT = 100, RECORDS = 1000, PAGES = (RECORDS + PAGE - 1) / PAGE, FILES = 2 };
+/* The maker's choice: settings, and how much the store is to hold. */
+enum { ORDER = 8, PAGE = 16, LIMIT = 100, RECORDS = 1000, FILES = 2 };
 
-typedef struct memory {
-    uint8_t log[24 + 24 * RECORDS];
-    uint64_t index[2 * PAGES + ORDER];
-    uint8_t table[8 * LIMIT];
-    yk_entry entries[FILES];
-    uint8_t areas[FILES * 8 * LIMIT];
-} memory;
-
-static yk_store over(memory *lent) {
-    yk_store store = {.log = lent->log, .log_length = sizeof lent->log,
-        .index = lent->index, .index_length = sizeof lent->index / sizeof lent->index[0],
-        .table = lent->table, .table_length = sizeof lent->table,
-        .entries = lent->entries, .entries_length = FILES,
-        .areas = lent->areas, .areas_length = sizeof lent->areas};
-    return store;
+static void *allocate(size_t bytes) {
+    void *block = malloc(bytes);
+    if (block == NULL) {
+        perror("malloc");
+        exit(1);
+    }
+    return block;
 }
 
 /* This maker's unit of time is the minute; Monday is day 1. */
@@ -61,9 +52,8 @@ static void friday(yk_store *store) {
     must(yk_store_insert(store, at(FRIDAY, 8, 30), 4900, 16));
 }
 
-static void print_table(const yk_store *store, const char *name, uint64_t time) {
-    static uint8_t out[8 * LIMIT];
-    yk_table_answer answer = yk_store_table(store, time, out, sizeof out);
+static void print_table(const yk_store *store, const char *name, uint64_t time, uint8_t *out, yk_lengths need) {
+    yk_table_answer answer = yk_store_table(store, time, out, need.out);
     must((enum yk_question)answer.question);
     printf("%s: %u articles\n", name, (unsigned)answer.rows);
     for (uint32_t i = 0; i < answer.rows; i++) {
@@ -72,9 +62,9 @@ static void print_table(const yk_store *store, const char *name, uint64_t time) 
     }
 }
 
-static void print_net_change(const yk_store *store, const char *name, uint64_t from, uint64_t to) {
-    static uint8_t out[24 * LIMIT], work[16 * LIMIT];
-    yk_net_change_answer answer = yk_store_net_change(store, from, to, out, sizeof out, work, sizeof work);
+static void print_net_change(const yk_store *store, const char *name, uint64_t from, uint64_t to, uint8_t *out,
+    uint8_t *work, yk_lengths need) {
+    yk_net_change_answer answer = yk_store_net_change(store, from, to, out, need.out, work, need.work);
     must((enum yk_question)answer.question);
     printf("%s: %u entries\n", name, (unsigned)answer.entries);
     for (uint32_t i = 0; i < answer.entries; i++) {
@@ -103,30 +93,39 @@ static void load(uint8_t *log, size_t length, const char *name) {
 }
 
 int main(int many, char **arguments) {
-    static memory lent, again;
     if (many != 2) {
         fprintf(stderr, "usage: shift FILE\n");
         return 2;
     }
-    yk_store store = over(&lent);
+    yk_lengths need = yk_lengths_for(ORDER, PAGE, LIMIT, RECORDS, FILES);
+    must((enum yk_question)need.question);
+    uint8_t *out = (uint8_t *)allocate(need.out), *work = (uint8_t *)allocate(need.work);
+    void *block = allocate(yk_store_bytes(need));
+    yk_store store = yk_store_in(block, need);
     must(yk_store_fresh(&store, ORDER, PAGE, LIMIT));
     count_the_week(&store);
-    print_table(&store, "Tuesday evening", at(TUESDAY, 18, 0));
+    print_table(&store, "Tuesday evening", at(TUESDAY, 18, 0), out, need);
     friday(&store);
-    print_table(&store, "now", store.numbers.last);
-    print_net_change(&store, "Thursday to Friday", at(THURSDAY, 16, 45), store.numbers.last);
+    print_table(&store, "now", store.numbers.last, out, need);
+    print_net_change(&store, "Thursday to Friday", at(THURSDAY, 16, 45), store.numbers.last, out, work, need);
     must(yk_store_drop(&store, at(THURSDAY, 16, 45)));
 
     enum yk_question no = yk_store_insert(&store, at(FRIDAY, 9, 0), 4711, 8);
     printf("inserting 4711 is refused by %d: %s\n", no, yk_question_text(no));
 
     save(&store, arguments[1]);
-    yk_store opened = over(&again);
+    void *another = allocate(yk_store_bytes(need));
+    yk_store opened = yk_store_in(another, need);
     load(opened.log, opened.log_length, arguments[1]);
     must(yk_store_open(&opened));
     printf("opened %u records, audit says %s\n", (unsigned)opened.numbers.records,
         yk_store_audit(&opened) ? "yes" : "no");
     must(yk_store_update(&opened, at(FRIDAY, 9, 0), 4711, 8));
-    print_table(&opened, "Tuesday evening, from the file", at(TUESDAY, 18, 0));
+    print_table(&opened, "Tuesday evening, from the file", at(TUESDAY, 18, 0), out, need);
+
+    free(another);
+    free(block);
+    free(work);
+    free(out);
     return 0;
 }

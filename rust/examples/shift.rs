@@ -5,32 +5,29 @@
 
 use std::error::Error;
 use std::{env, fs};
-use yokefennel::{Entry, Lent, Refusal, Settings, Step, Store};
+use yokefennel::{Entry, Lengths, Lent, Refusal, Settings, Step, Store};
 
-// The maker's choice, and the memory that goes with it. The index has 2 words a page and `order` more, which
-// is always enough: see docs/GUIDE.md.
+// The maker's choice: settings, and how much the store is to hold.
 const SETTINGS: Settings = Settings { order: 8, page: 16, limit: 100 };
-const RECORDS: usize = 1_000;
-const PAGES: usize = RECORDS.div_ceil(SETTINGS.page as usize);
-const TABLE: usize = 8 * SETTINGS.limit as usize;
-const FILES: usize = 2;
+const RECORDS: u32 = 1_000;
+const FILES: u32 = 2;
 
 struct Memory {
-    log: [u8; 24 + 24 * RECORDS],
-    index: [u64; 2 * PAGES + SETTINGS.order as usize],
-    table: [u8; TABLE],
-    entries: [Entry; FILES],
-    areas: [u8; FILES * TABLE],
+    log: Vec<u8>,
+    index: Vec<u64>,
+    table: Vec<u8>,
+    entries: Vec<Entry>,
+    areas: Vec<u8>,
 }
 
 impl Memory {
-    fn new() -> Memory {
+    fn new(need: Lengths) -> Memory {
         Memory {
-            log: [0; 24 + 24 * RECORDS],
-            index: [0; 2 * PAGES + SETTINGS.order as usize],
-            table: [0; TABLE],
-            entries: [Entry::default(); FILES],
-            areas: [0; FILES * TABLE],
+            log: vec![0; need.log],
+            index: vec![0; need.index],
+            table: vec![0; need.table],
+            entries: vec![Entry::default(); need.entries],
+            areas: vec![0; need.areas],
         }
     }
 
@@ -75,9 +72,8 @@ fn friday(store: &mut Store) -> Result<(), Refusal> {
     store.insert(at(FRIDAY, 8, 30), 4900, 16)
 }
 
-fn print_table(store: &Store, name: &str, time: u64) -> Result<(), Refusal> {
-    let mut out = [0; TABLE];
-    let rows = store.table(time, &mut out)?.rows();
+fn print_table(store: &Store, name: &str, time: u64, out: &mut [u8]) -> Result<(), Refusal> {
+    let rows = store.table(time, out)?.rows();
     println!("{name}: {} articles", rows.len());
     for row in rows {
         println!("  {}: {}", row.article, row.count);
@@ -85,9 +81,10 @@ fn print_table(store: &Store, name: &str, time: u64) -> Result<(), Refusal> {
     Ok(())
 }
 
-fn print_net_change(store: &Store, name: &str, from: u64, to: u64) -> Result<(), Refusal> {
-    let (mut out, mut work) = ([0; 3 * TABLE], [0; 2 * TABLE]);
-    let steps = store.net_change(from, to, &mut out, &mut work)?.steps();
+fn print_net_change(
+    store: &Store, name: &str, from: u64, to: u64, out: &mut [u8], work: &mut [u8],
+) -> Result<(), Refusal> {
+    let steps = store.net_change(from, to, out, work)?.steps();
     println!("{name}: {} entries", steps.len());
     for step in steps {
         match step {
@@ -100,14 +97,17 @@ fn print_net_change(store: &Store, name: &str, from: u64, to: u64) -> Result<(),
 
 fn main() -> Result<(), Box<dyn Error>> {
     let file = env::args().nth(1).ok_or("usage: shift FILE")?;
-    let mut memory = Memory::new();
+    let need = SETTINGS.lengths(RECORDS, FILES)?;
+    let (mut out, mut work) = (vec![0; need.out], vec![0; need.work]);
+    let mut memory = Memory::new(need);
     let mut store = Store::fresh(SETTINGS, memory.lend())?;
     count_the_week(&mut store)?;
-    print_table(&store, "Tuesday evening", at(TUESDAY, 18, 0))?;
+    print_table(&store, "Tuesday evening", at(TUESDAY, 18, 0), &mut out)?;
     friday(&mut store)?;
-    print_table(&store, "now", store.numbers().last)?;
-    print_net_change(&store, "Thursday to Friday", at(THURSDAY, 16, 45), store.numbers().last)?;
-    store.drop_file(at(THURSDAY, 16, 45))?;
+    print_table(&store, "now", store.numbers().last, &mut out)?;
+    let (thursday, now) = (at(THURSDAY, 16, 45), store.numbers().last);
+    print_net_change(&store, "Thursday to Friday", thursday, now, &mut out, &mut work)?;
+    store.drop_file(thursday)?;
 
     if let Err(refusal) = store.insert(at(FRIDAY, 9, 0), 4711, 8) {
         println!("inserting 4711 is {refusal}");
@@ -116,12 +116,12 @@ fn main() -> Result<(), Box<dyn Error>> {
     fs::write(&file, store.log())?;
     println!("saved {} bytes", store.log().len());
     let saved = fs::read(&file)?;
-    let mut memory = Memory::new();
+    let mut memory = Memory::new(need);
     memory.log.get_mut(..saved.len()).ok_or("the file is longer than the lent log")?.copy_from_slice(&saved);
     let mut opened = Store::open(memory.lend())?;
     let audit = if opened.audit() { "yes" } else { "no" };
     println!("opened {} records, audit says {audit}", opened.numbers().records);
     opened.update(at(FRIDAY, 9, 0), 4711, 8)?;
-    print_table(&opened, "Tuesday evening, from the file", at(TUESDAY, 18, 0))?;
+    print_table(&opened, "Tuesday evening, from the file", at(TUESDAY, 18, 0), &mut out)?;
     Ok(())
 }

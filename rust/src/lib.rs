@@ -7,8 +7,10 @@
 //! ```
 //! use yokefennel::{Entry, Lent, Row, Settings, Step, Store};
 //!
-//! let (mut log, mut index, mut table) = (vec![0; 24 + 24 * 100], vec![0; 108], vec![0; 8 * 4]);
-//! let (mut entries, mut areas) = ([Entry::default(); 2], [0; 2 * 8 * 4]);
+//! let settings = Settings { order: 8, page: 2, limit: 4 };
+//! let need = settings.lengths(100, 2)?; // for 100 records and 2 count files
+//! let (mut log, mut index, mut table) = (vec![0; need.log], vec![0; need.index], vec![0; need.table]);
+//! let (mut entries, mut areas) = (vec![Entry::default(); need.entries], vec![0; need.areas]);
 //! let lent = Lent {
 //!     log: &mut log,
 //!     index: &mut index,
@@ -16,15 +18,14 @@
 //!     entries: &mut entries,
 //!     areas: &mut areas,
 //! };
-//! let mut store = Store::fresh(Settings { order: 8, page: 2, limit: 4 }, lent)?;
+//! let mut store = Store::fresh(settings, lent)?;
 //! store.insert(10, 7, 50)?; // at time 10, article 7 with count 50
 //! store.update(30, 7, 44)?;
 //!
-//! let mut out = [0; 8 * 4];
+//! let (mut out, mut work) = (vec![0; need.out], vec![0; need.work]);
 //! let rows: Vec<Row> = store.table(20, &mut out)?.rows().collect();
 //! assert_eq!(rows, [Row { article: 7, count: 50 }]);
 //!
-//! let (mut out, mut work) = ([0; 24 * 4], [0; 16 * 4]);
 //! let steps: Vec<Step> = store.net_change(20, 30, &mut out, &mut work)?.steps().collect();
 //! let (before, after) = (Row { article: 7, count: 50 }, Row { article: 7, count: 44 });
 //! assert_eq!(steps, [Step::Delete(before), Step::Insert(after)]);
@@ -33,25 +34,26 @@
 //!
 //! - **Time**: its unit is yours. Each request's time is above the last one's, so the first is 1 or more; time 0
 //!   is that of the empty table, and no request has it.
-//! - **Lengths that suffice**: log 24 bytes and 24 for each record; table 8 × limit; areas 8 × limit for each
-//!   count file; `docs/GUIDE.md` has the rule for the index. No call needs a count file: entries and areas may
+//! - **Memory**: [`Settings::lengths`] says how much to lend. No call needs a count file: entries and areas may
 //!   be empty.
 //! - **Saving**: [`Store::log`] is all that need be saved; [`Store::open`] makes the rest anew.
 //! - **Threads**: any number of stores on any number of threads.
 //! - **Damage**: whatever the lent memory holds, every call ends and stays within it. [`Store::audit`] says
 //!   whether it is such as accepted calls leave.
-//! - **Stack**: at most 16 kB for a call.
+//! - **Stack**: at most 32 kB for a call.
 //!
 //! The build needs `YK_LIB_DIR`, the folder of `libembed.a` (x86-64 Linux).
 #![no_std]
 #![warn(missing_docs)]
 
 mod bytes;
+mod lengths;
 pub mod raw;
 mod refusal;
 mod store;
 
 pub use bytes::{Row, Rows, Step, Steps};
+pub use lengths::Lengths;
 pub use refusal::Refusal;
 pub use store::{Lent, NetChange, Place, Settings, Side, Store, Table, View};
 

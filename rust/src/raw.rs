@@ -72,11 +72,36 @@ pub struct NetChangeAnswer {
     pub entries: u32,
 }
 
+/// What [`yk_lengths_for`] answers.
+#[repr(C)]
+#[derive(Clone, Copy, Debug)]
+pub struct LengthsAnswer {
+    /// 01's number of the question answered no, or 0
+    pub question: u8,
+    /// bytes of the log
+    pub log: usize,
+    /// words of the index
+    pub index: usize,
+    /// bytes of the table
+    pub table: usize,
+    /// entries of the catalogue
+    pub entries: usize,
+    /// bytes of the areas
+    pub areas: usize,
+    /// bytes of a net change's output
+    pub out: usize,
+    /// bytes of its workspace
+    pub work: usize,
+}
+
 // one region to a line, its length beside it
 #[rustfmt::skip]
 extern "C" {
     /// The version of the archive: 65,536 × major + 256 × minor + patch.
     pub fn yk_version() -> u32;
+
+    /// The lengths to lend for so many records and count files.
+    pub fn yk_lengths_for(order: u16, page: u16, limit: u32, records: u32, files: u32) -> LengthsAnswer;
 
     /// Starts an empty store.
     pub fn yk_fresh(

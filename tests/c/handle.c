@@ -122,6 +122,24 @@ static void words(void) {
     require(yk_version() == YK_VERSION_NUMBER, "and the archive's");
 }
 
+/* As much as the lengths say, in one block. */
+static void lengths(void) {
+    static uint64_t block[1000];
+    yk_lengths need = yk_lengths_for(3, 2, LIMIT, 8, 1);
+    require(need.question == YK_ACCEPTED && need.log == 24 + 24 * 8 && need.index == 6 && need.entries == 1, "lengths");
+    require(need.table == 8 * LIMIT && need.areas == 8 * LIMIT && need.out == 24 * LIMIT && need.work == 16 * LIMIT,
+        "lengths of tables");
+    require(yk_store_bytes(need) == need.log + 48 + need.table + 16 + need.areas, "bytes of a block");
+    yk_store store = yk_store_in(block, need);
+    build(&store);
+    require(yk_store_keep(&store, 20) == YK_ACCEPTED && yk_store_audit(&store), "a store in a block");
+    require(yk_store_keep(&store, 30) == YK_CATALOGUE_FULL, "a file more");
+    store = yk_store_in(NULL, need);
+    require(yk_store_fresh(&store, 3, 2, LIMIT) == YK_MEMORY, "no block");
+    need = yk_lengths_for(3, 65, LIMIT, 8, 1);
+    require(need.question == YK_PAGE_SIZE && need.log == 0 && yk_store_bytes(need) == 0, "no lengths");
+}
+
 int main(void) {
     yk_store store = over(1);
     build(&store);
@@ -129,6 +147,7 @@ int main(void) {
     count_files(&store);
     open_again();
     not_lent();
+    lengths();
     words();
     puts("handle: ok");
     return 0;

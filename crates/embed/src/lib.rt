@@ -8,7 +8,7 @@ ghost use Rattle.model.specs.Changes.{insertOf, deleteOf, updateOf};
 ghost use Rattle.model.specs.Files.{keepOf, dropOf};
 ghost use Rattle.model.specs.Audit.{auditOf};
 ghost use Rattle.numbered.specs.Lent.{memoryOf, memoryLent};
-ghost use Rattle.numbered.specs.Crossed.{StartCrossed, AppendCrossed, PositionCrossed, TableCrossed, ViewCrossed, NetChangeCrossed, FilesCrossed};
+ghost use Rattle.numbered.specs.Crossed.{StartCrossed, AppendCrossed, PositionCrossed, TableCrossed, ViewCrossed, NetChangeCrossed, FilesCrossed, LengthsCrossed};
 ghost use Rattle.numbered.specs.Answers.{yesOut};
 ghost use Rattle.embed.specs.Regions.{asLent, asLeft};
 use model::Entry;
@@ -17,6 +17,7 @@ use numbered::answer::YkChange;
 use numbered::answer::YkNetChange;
 use numbered::answer::YkPosition;
 use numbered::answer::YkTable;
+use numbered::needed::YkLengths;
 use numbered::outset::YkView;
 
 // The version of the archive: that of the header and of the Rust crate, as one number.
@@ -25,6 +26,13 @@ pub extern "C" fn yk_version() -> u32
     ensures { λ r. ⌜ r ≡ 0 * 65536 + 1 * 256 + 0 ⌝ }
 {
     256
+}
+
+#[no_mangle]
+pub extern "C" fn yk_lengths_for(order: u16, page: u16, limit: u32, records: u32, files: u32) -> YkLengths
+    ensures { λ r. ⌜ LengthsCrossed r order page limit records files ⌝ }
+{
+    numbered::lengths_for(order, page, limit, records, files)
 }
 
 #[no_mangle]

@@ -12,6 +12,7 @@ use Rattle.model.specs.declared.Place.the-variants.{Empty, Area, Current}
 use Rattle.model.specs.declared.TableAnswer.the-variants as table
 use Rattle.model.specs.declared.ViewAnswer.the-variants as view
 use Rattle.model.specs.declared.NetChangeAnswer.the-variants as net
+use Rattle.lending.specs.declared.LengthsAnswer.the-variants as lengths
 use Rattle.model.specs.Answers.{refusal}
 use Rattle.answers.specs.Question.{questionOf, recordIn, numberOf}
 use Rattle.numbered.specs.declared.answer.YkChange.{YkChange}
@@ -19,7 +20,8 @@ use Rattle.numbered.specs.declared.answer.YkPosition.{YkPosition}
 use Rattle.numbered.specs.declared.answer.YkTable.{YkTable}
 use Rattle.numbered.specs.declared.outset.YkView.{YkView}
 use Rattle.numbered.specs.declared.answer.YkNetChange.{YkNetChange}
-use Rattle.numbered.specs.Answers.{changeOut, positionOut, laterOf, tableOut, placeOut, areaOut, spanOf, viewOut, netChangeOut}
+use Rattle.numbered.specs.declared.needed.YkLengths.{YkLengths}
+use Rattle.numbered.specs.Answers.{changeOut, positionOut, laterOf, tableOut, placeOut, areaOut, spanOf, viewOut, netChangeOut, lengthsOut}
 
 -- every refusal's number, as 01 numbers its questions
 abbrev refusals : List Refusal
@@ -75,3 +77,8 @@ netted = refl
 late : netChangeOut (net.Refused TimeAfterLast) ≡ record { question = 12; entries = 0 }
 unfolding netChangeOut questionOf refusal
 late = refl
+
+lent : lengthsOut (lengths.Lend (record { log = 144; index = 8; table = 32; entries = 2; areas = 64; output = 96; workspace = 48 }))
+    ≡ record { question = 0; log = 144; index = 8; table = 32; entries = 2; areas = 64; output = 96; workspace = 48 }
+unfolding lengthsOut
+lent = refl

@@ -17,6 +17,8 @@ use Rattle.model.specs.declared.ViewAnswer.{ViewAnswer}
 use Rattle.model.specs.declared.ViewAnswer.the-variants as view
 use Rattle.model.specs.declared.NetChangeAnswer.{NetChangeAnswer}
 use Rattle.model.specs.declared.NetChangeAnswer.the-variants as net
+use Rattle.lending.specs.declared.LengthsAnswer.{LengthsAnswer}
+use Rattle.lending.specs.declared.LengthsAnswer.the-variants as lengths
 use Rattle.answers.specs.Question.{numberOf, recordOf}
 use Rattle.numbered.specs.declared.answer.YkChange.{YkChange}
 use Rattle.numbered.specs.declared.answer.YkPosition.{YkPosition}
@@ -24,6 +26,7 @@ use Rattle.numbered.specs.declared.answer.YkTable.{YkTable}
 use Rattle.numbered.specs.declared.outset.YkView.{YkView}
 use Rattle.numbered.specs.declared.answer.YkNetChange.{YkNetChange}
 use Rattle.numbered.specs.declared.outset.Span.{Span}
+use Rattle.numbered.specs.declared.needed.YkLengths.{YkLengths}
 
 unfoldable pub changeOut : Numbers → Verdict → YkChange
 changeOut s verdict.Accepted = record { numbers = s; question = 0; «record» = 0 }
@@ -88,3 +91,20 @@ netChangeOut (net.Refused why) = record { question = numberOf why; entries = 0 }
 -- 1 for yes
 abbrev pub yesOut : Bool → ℕ
 yesOut b = cond b 1 0
+
+-- ---- the lengths to lend
+
+unfoldable pub lengthsOut : LengthsAnswer → YkLengths
+lengthsOut (lengths.Lend l) =
+    record {
+      question = 0;
+      log = l .log;
+      index = l .index;
+      table = l .table;
+      entries = l .entries;
+      areas = l .areas;
+      output = l .output;
+      workspace = l .workspace;
+    }
+lengthsOut (lengths.Refused why) =
+    record { question = numberOf why; log = 0; index = 0; table = 0; entries = 0; areas = 0; output = 0; workspace = 0 }

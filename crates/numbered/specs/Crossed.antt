@@ -17,12 +17,15 @@ use Rattle.model.specs.Answers.{Outcome, verdictOutcome, positionOutcome, table
 use Rattle.model.specs.Memory.{Memory, State, state}
 use Rattle.model.specs.Starts.{After, after}
 use Rattle.model.specs.Promises.{AppendPromise, FilesPromise, PositionPromise, TablePromise, ViewPromise, NetChangePromise}
+use Rattle.lending.specs.declared.LengthsAnswer.{LengthsAnswer}
+use Rattle.lending.specs.Lengths.{lengthsOf, lengthsOutcome}
 use Rattle.numbered.specs.declared.answer.YkChange.{YkChange}
 use Rattle.numbered.specs.declared.answer.YkPosition.{YkPosition}
 use Rattle.numbered.specs.declared.answer.YkTable.{YkTable}
 use Rattle.numbered.specs.declared.outset.YkView.{YkView}
 use Rattle.numbered.specs.declared.answer.YkNetChange.{YkNetChange}
-use Rattle.numbered.specs.Answers.{changeOut, positionOut, tableOut, viewOut, netChangeOut}
+use Rattle.numbered.specs.declared.needed.YkLengths.{YkLengths}
+use Rattle.numbered.specs.Answers.{changeOut, positionOut, tableOut, viewOut, netChangeOut, lengthsOut}
 
 -- a call that may change the store; Kept is what its promise says of the outcome and of the store then
 pub record ChangeCrossed (Kept : Outcome Unit → State → Type 0) (r : YkChange) (memory' : Memory) : Type 0 where
@@ -67,3 +70,9 @@ pub record NetChangeCrossed (r : YkNetChange) (st : State) (a b : ℕ) (out work
   pub answer : NetChangeAnswer
   pub is : r ≡ netChangeOut answer
   pub kept : NetChangePromise st a b out work (netChangeOutcome answer) out' work'
+
+-- the lengths to lend are those of the definition
+pub record LengthsCrossed (r : YkLengths) (d N R n f : ℕ) : Type 0 where
+  pub answer : LengthsAnswer
+  pub is : r ≡ lengthsOut answer
+  pub kept : lengthsOutcome answer ≡ lengthsOf d N R n f

@@ -12,7 +12,7 @@ ghost use Rattle.model.specs.Audit.{auditOf};
 ghost use Rattle.catalogue.specs.Files.{byValue, writtenBack};
 ghost use Rattle.numbered.specs.Answers.{yesOut};
 ghost use Rattle.numbered.specs.Lent.{memoryOf, cleared, memoryLent, memoryLeft, storeLent};
-ghost use Rattle.numbered.specs.Crossed.{StartCrossed, AppendCrossed, PositionCrossed, TableCrossed, ViewCrossed, NetChangeCrossed, FilesCrossed};
+ghost use Rattle.numbered.specs.Crossed.{StartCrossed, AppendCrossed, PositionCrossed, TableCrossed, ViewCrossed, NetChangeCrossed, FilesCrossed, LengthsCrossed};
 use answer::Begun;
 use answer::Refiled;
 use answer::YkChange;
@@ -21,10 +21,18 @@ use answer::YkPosition;
 use answer::YkTable;
 use catalogue::Catalogue;
 use model::Numbers;
+use needed::YkLengths;
 use outset::YkView;
 
 pub mod answer; // answer.rt: the answers in numbers
+pub mod needed; // needed.rt: the lengths to lend
 pub mod outset; // outset.rt: that of a view
+
+pub fn lengths_for(order: u16, page: u16, limit: u32, records: u32, files: u32) -> YkLengths
+    ensures { λ r. ⌜ LengthsCrossed r order page limit records files ⌝ }
+{
+    needed::lengths_out(lending::lengths_for(order, page, limit, records, files))
+}
 
 pub fn fresh(
     order: u16,
