@@ -1,19 +1,17 @@
 -- The nodes in the order of allocation, whatever they hold: leaf m is node leafNode d m, and the node that it
 -- opens is the one before. Assumes nothing.
-use Prim.Native.Nat.{ℕ, zero, suc, _+_, _-_, _*_, _^_, _≤_, _<_}
-use mathlib.Core.Path.{_≡_, refl, sym, ap, subst, _∙_}
+use Prim.Native.Nat.{ℕ, zero, suc, _+_, _-_, _≤_, _<_}
+use mathlib.Core.Path.{_≡_, refl, _∙_}
 use mathlib.Core.Logic.{_⊎_, inl, inr, ⊎-elim}
 use mathlib.Core.List.{List, [], _∷_, _++_}
 use mathlib.Core.Bool.{Bool, true, false, cond}
 use native.Mathlib.Omega.{arith}
-use native.Mathlib.Nat.{le-refl, add-zero, add-suc, pow-suc}
+use native.Mathlib.Nat.{le-refl, add-zero, add-suc}
 use lib.ListN.{length, getD, length-append, List·getD-append}
 use lib.Seq.{getD-at, getD-append-add}
-use Rattle.model.specs.Shape.{valuation, opens, host}
+use Rattle.model.specs.Shape.{opens}
 use Rattle.model.specs.Numbering.{opened, nodes, leafNode, innerNode}
 use Rattle.model.specs.Tree.{allotted}
-use Rattle.tree.specs.Levels.{innersOver, fullNodes}
-use Rattle.tree.specs.Append.{slot}
 use Rattle.tree.proofs.Orders.{le-or-lt}
 use Rattle.tree.proofs.Numbers.{leaf-in, nodes-mono, opened-le}
 

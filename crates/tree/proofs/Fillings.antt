@@ -1,7 +1,7 @@
 -- An index that is filled key by key: one key more is the same as the whole new tree written into the index,
 -- and so is a list of keys from none on. Assumes nothing.
 use Prim.Native.Nat.{ℕ, suc, _+_, _-_, _*_, _/_, _%_, _≤_, _<_}
-use mathlib.Core.Path.{_≡_, refl, sym, ap, _∙_, subst}
+use mathlib.Core.Path.{_≡_, refl, ap, _∙_, subst}
 use mathlib.Core.Logic.{⊎-elim}
 use mathlib.Core.List.{List, [], _∷_, _++_, append-assoc, append-nil}
 use mathlib.Core.Bool.{Bool, true, false, cond}
@@ -15,7 +15,7 @@ use borrow.Author.Tests.{eqb-false}
 use Rattle.codec.specs.Parts.{put}
 use Rattle.model.specs.Shape.{opens, host, padded, leavesOf}
 use Rattle.model.specs.Numbering.{nodes, leafNode, innerNode, nodeWord}
-use Rattle.model.specs.Tree.{indexWords, nodesOf, withTree, Packed}
+use Rattle.model.specs.Tree.{indexWords, withTree, Packed}
 use Rattle.tree.specs.Append.{slot, withSeparator, withLeaf, appendOf, fillOf}
 use Rattle.tree.proofs.Orders.{le-or-lt}
 use Rattle.tree.proofs.Leaves.{leaves-none, leaves-next, leaves-mono}

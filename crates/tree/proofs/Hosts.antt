@@ -1,18 +1,15 @@
 -- Which node takes which separator: the node that leaf (b * d + 1) * d ^ l opened takes that of leaf
 -- (b * d + suc i) * d ^ l, i < d - 1. No node numbers. Assumes nothing.
 use Prim.Native.Nat.{ℕ, zero, suc, _+_, _-_, _*_, _/_, _%_, _^_, _≤_, _<_, zero-le, suc-le-suc}
-use mathlib.Core.Path.{_≡_, refl, sym, ap, _∙_, subst}
+use mathlib.Core.Path.{_≡_, refl, sym, ap, _∙_}
 use mathlib.Core.Logic.{⊎-elim}
-use mathlib.Core.List.{List, [], _∷_, _++_, append-nil, append-assoc}
 use mathlib.Core.Bool.{Bool, true, false, cond, _&&_}
 use native.Mathlib.Omega.{arith}
-use native.Mathlib.Nat.{le-refl, mul-le-mul-right, lt-of-mul-lt-mul-right, le-of-mul-le-mul-right, one-le-pow, div-add-mod', mod-lt, add-zero, add-suc, zero-add, add-comm, mul-lt-mul-of-pos-right, zero-mod}
-use lib.Seq.{getD-at}
-use lib.ListN.{length, getD, length-append}
+use native.Mathlib.Nat.{le-refl, mul-le-mul-right, lt-of-mul-lt-mul-right, le-of-mul-le-mul-right, one-le-pow, div-add-mod', mod-lt, zero-mod}
 use lib.Arith.{digits-mod}
 use lib.Dec.{eqb}
-use borrow.Author.Tests.{eqb-true, eq-eqb, ne-eqb}
-use Rattle.model.specs.Shape.{valuation, cofactor, cofactorUpTo, opens, lastOpened, host, takers}
+use borrow.Author.Tests.{eqb-true, eq-eqb}
+use Rattle.model.specs.Shape.{valuation, cofactor, cofactorUpTo, opens, lastOpened, host}
 use Rattle.tree.specs.Append.{slot}
 use Rattle.tree.proofs.Orders.{le-or-lt}
 use Rattle.tree.proofs.Valuations.{valuation-pow, cofactor-pow, restored, cofactor-odd}

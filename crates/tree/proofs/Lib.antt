@@ -1,25 +1,21 @@
 -- lists
 pub mod Orders
 pub mod Parts
--- levels, separators, ranges of leaves and counts of keys, with no node numbers
+-- levels, separators and leaves, with no node numbers
 pub mod Valuations
 pub mod Hosts
 pub mod Takers
 pub mod Leaves
-pub mod Counts
-pub mod Ranges
 pub mod Growths
 -- the packed numbering
 pub mod Numbers
 pub mod Runs
 pub mod Allotments
 pub mod Apart
--- an index that holds the tree: one key more, written whole, searched
+-- an index that holds the tree: one key more, written whole
 pub mod Packings
 pub mod Written
 pub mod Rooms
 pub mod Appends
 pub mod Fillings
-pub mod Descents
-pub mod Positions
 pub mod Cases

@@ -4,7 +4,7 @@ use mathlib.Core.Path.{_≡_, refl, sym, ap, ap₂, _∙_}
 use mathlib.Core.Logic.{_⊎_, ⊎-elim}
 use mathlib.Core.List.{List, [], _∷_, _++_, append-assoc}
 use native.Mathlib.Omega.{arith}
-use lib.ListN.{length, getD, set, take, drop, replicate, length-append, length-drop, length-set, length-replicate, take-append-drop}
+use lib.ListN.{length, set, take, drop, length-append, length-drop, length-set, length-replicate, take-append-drop}
 use lib.Seq.{drop-set-lt, drop-set-add, take-set-le, take-set-lt, length-take-le, take-append-le, take-at, drop-at, drop-drop, drop-append-le, set-at}
 use borrow.Rule.Slice.PartMut.{putMid, same-len-mid}
 use Rattle.codec.specs.Parts.{put, zeros}

@@ -1,9 +1,9 @@
 -- The separators of one node in order: its takers, at most d - 1 of them, the one that opened it first. No node
 -- numbers. Assumes nothing.
-use Prim.Native.Nat.{ℕ, zero, suc, _+_, _-_, _*_, _/_, _%_, _^_, _≤_, _<_, zero-le, suc-le-suc}
+use Prim.Native.Nat.{ℕ, zero, suc, _+_, _-_, _*_, _^_, _≤_, _<_, zero-le, suc-le-suc}
 use mathlib.Core.Path.{_≡_, refl, sym, ap, _∙_, subst}
 use mathlib.Core.List.{List, [], _∷_, _++_, append-nil, append-assoc}
-use mathlib.Core.Bool.{Bool, true, false, cond}
+use mathlib.Core.Bool.{true, false, cond}
 use native.Mathlib.Omega.{arith}
 use native.Mathlib.Nat.{le-refl, mul-le-mul-right, lt-of-mul-lt-mul-right, one-le-pow, add-zero, add-suc, zero-add, add-comm, mul-lt-mul-of-pos-right}
 use lib.Seq.{getD-at}
@@ -13,7 +13,7 @@ use borrow.Author.Tests.{eqb-true, eq-eqb, ne-eqb}
 use Rattle.model.specs.Shape.{valuation, cofactor, opens, host, takers}
 use Rattle.tree.specs.Append.{slot}
 use Rattle.tree.proofs.Valuations.{cofactor-pow}
-use Rattle.tree.proofs.Hosts.{start, host-le, digit, odd, valuation-at, opens-at, host-at, opens-none, Place, place}
+use Rattle.tree.proofs.Hosts.{start, host-le, digit, odd, valuation-at, opens-at, host-at, opens-none, place}
 
 module _ (d : ℕ) (two : 2 ≤ d) where
   pub takers-nil : (m : ℕ) → takers d m 0 ≡ []

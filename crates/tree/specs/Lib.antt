@@ -1,4 +1,2 @@
 pub mod Levels
 pub mod Append
-pub mod Ranges
-pub mod Descent

@@ -5,9 +5,9 @@ ghost use mathlib.Core.Path.{_≡_};
 ghost use Prim.Native.Nat.{_+_, _*_, _≤_, _<_};
 ghost use lib.ListN.{length};
 ghost use Rattle.tree.specs.Levels.{Room};
+use descent::position;
 use tree::append;
 use tree::index_words;
-use tree::position;
 
 // The leaf that opened the node of a separator, and the word of that node.
 pub struct Place {

@@ -2,7 +2,6 @@
 -- its words that are taken. Assumes nothing.
 use Prim.Native.Nat.{ℕ, _+_, _-_, _%_, _<_}
 use mathlib.Core.Path.{_≡_, sym, ap, ap₂, _∙_}
-use mathlib.Core.List.{[], _∷_}
 use mathlib.Core.Bool.{false}
 use lib.ListN.{getD, set}
 use borrow.Author.Tests.{ne-eqb}

@@ -1,10 +1,10 @@
 -- `tree::strip` meets its contract. Invariant: m and what is left of it have one cofactor, and `full` counts
 -- the nodes of a full run of as many levels as were divided off. Measure: what is left. Assumes nothing.
 use borrow.Author.Needs.{needs}
-use Prim.Native.Nat.{ℕ, suc, _+_, _-_, _≤_, _<_, _*_, _^_, _/_, _%_}
+use Prim.Native.Nat.{ℕ, suc, _+_, _-_, _≤_, _<_, _*_, _/_, _%_}
 use mathlib.Core.Path.{_≡_, refl, sym, ap, _∙_}
 use native.Mathlib.Omega.{arith}
-use native.Mathlib.Nat.{le-refl, mul-le-mul-left, mul-le-mul-right, mul-le-mul, div-lt-self, div-add-mod', sub-self}
+use native.Mathlib.Nat.{le-refl, mul-le-mul-left, mul-le-mul-right, div-lt-self, div-add-mod', sub-self}
 use Rattle.model.specs.Shape.{cofactor, valuation}
 use Rattle.tree.specs.Levels.{fullNodes}
 use Rattle.tree.proofs.Valuations.{valuation-div, cofactor-div, valuation-none, cofactor-none, div-pos}

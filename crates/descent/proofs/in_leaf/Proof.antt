@@ -1,13 +1,9 @@
--- `tree::in_leaf` meets its contract. Assumes nothing.
-use Prim.Native.Nat.{ℕ, _-_, _*_, min}
-use mathlib.Core.Path.{_≡_, subst}
-use Rattle.model.specs.Numbering.{nodeWord}
-use Rattle.tree.specs.Ranges.{Cut}
-use Rattle.tree.proofs.Positions.{leaf-number, leaf-long, found-leaf}
+-- `descent::in_leaf` meets its contract. Assumes nothing.
+use Rattle.descent.proofs.Positions.{leaf-number, leaf-long, found-leaf}
 use borrow.Author.Needs.{needs}
 use native.Mathlib.Omega.{arith}
-use Rattle.tree.proofs.in_leaf.Statement.{statement}
-use Rattle.tree.proofs.in_leaf.Tie as tie
+use Rattle.descent.proofs.in_leaf.Statement.{statement}
+use Rattle.descent.proofs.in_leaf.Tie as tie
 
 sub-before : tie.Need-sub-before
 sub-before c = search needs
@@ -27,7 +23,6 @@ at-most-requires c κs = search needs
 node-word-requires : tie.Need-node-word-requires
 node-word-requires c κs =
     let g = c .before .before in
-    let a = g .args in
     omega (arith, leaf-number (g .pre), g .pre .order-low, g .pre .order-high)
 
 cast-cut : tie.Need-cast-cut
@@ -36,7 +31,6 @@ cast-cut c = search needs
 cut-requires : tie.Need-cut-requires
 cut-requires c κs =
     let g = c .before .before .before in
-    let a = g .args in
     omega (arith, leaf-long (g .pre), c .node-word .ensures .0, c .before .at-most .ensures)
 
 cast-result : tie.Need-cast-result
@@ -47,12 +41,9 @@ add-result c = search needs
 
 returns : tie.Need-returns
 returns c =
-    let g = c .before .before .before .before in
-    let a = g .args in
-    let e : c .before .node-word .result ≡ nodeWord (a .d) (a .first .0) = c .before .node-word .ensures .0 in
-    let f : c .before .before .at-most .result ≡ min (a .d - 1) (a .k - a .a * (a .d - 1)) = c .before .before .at-most .ensures in
-    found-leaf (g .pre)
-    (subst (λ (x : ℕ). Cut (a .index .now) (nodeWord (a .d) (a .first .0)) x (a .t) (c .cut .result)) f (subst (λ (x : ℕ). Cut (a .index .now) x (c .before .before .at-most .result) (a .t) (c .cut .result)) e (c .cut .ensures)))
+    let used = c .before .before .at-most .ensures in
+    let word = c .before .node-word .ensures .0 in
+    found-leaf (c .before .before .before .before .pre) (rw (← used, ← word) (c .cut .ensures))
 
 pub in-leaf-spec : {M : Type 1} → statement M
 in-leaf-spec =

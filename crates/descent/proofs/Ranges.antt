@@ -8,9 +8,9 @@ use native.Mathlib.Omega.{arith}
 use native.Mathlib.Nat.{le-trans, le-of-lt, lt-of-lt-of-le, add-zero, mul-le-mul-right, le-div-iff-mul-le, div-lt-iff-lt-mul, zero-mul}
 use lib.ListN.{length, getD}
 use Rattle.model.specs.Tree.{Rising, keysUpTo}
-use Rattle.tree.specs.Ranges.{Bracket, Cut, Between}
+use Rattle.descent.specs.Ranges.{Bracket, Cut, Between}
 use Rattle.tree.proofs.Orders.{le-or-lt}
-use Rattle.tree.proofs.Counts.{count-is}
+use Rattle.descent.proofs.Counts.{count-is}
 
 -- ---- a cut by rungs, in any words: k words more are passed, or not
 module _ {words : List ℕ} {at c t low : ℕ} (k : ℕ) (one : 0 < k) where
@@ -39,7 +39,10 @@ module _ (keys xs : List ℕ) (w t a r u n j : ℕ) (one : 0 < w) (pos : 0 < u) 
 
   -- a key before leaf m, m ≥ 1, is at most the separator of m
   upto : (m i : ℕ) → i < m * w → m * w < length keys → getD keys (m * w - 1) 0 ≤ t → getD keys i 0 ≤ t
-  upto m i l k h = ⊎-elim (λ p. subst (λ (x : ℕ). getD keys x 0 ≤ t) (omega arith) h) (λ q. le-trans (le-of-lt (rising i (m * w - 1) q (omega arith))) h) (le-or-lt (m * w - 1) i)
+  upto m i l k h = ⊎-elim
+      (λ p. subst (λ (x : ℕ). getD keys x 0 ≤ t) (omega arith) h)
+      (λ q. le-trans (le-of-lt (rising i (m * w - 1) q (omega arith))) h)
+      (le-or-lt (m * w - 1) i)
 
   over : (m i : ℕ) → 0 < m → m * w ≤ i → i < length keys → t < getD keys (m * w - 1) 0 → t < getD keys i 0
   over m i p l k h = lt-of-lt-of-le h (le-of-lt (rising (m * w - 1) i (omega (arith, mul-le-mul-right w p)) k))
@@ -54,7 +57,8 @@ module _ (keys xs : List ℕ) (w t a r u n j : ℕ) (one : 0 < w) (pos : 0 < u) 
           let m : a + u + x * u ≡ a + suc x * u = omega arith in
           let lt : suc x * u < r = subst (λ (y : ℕ). y * u < r) (sym e) inside in
           let last : j - 1 ≡ x = omega arith in
-          upto (a + suc x * u) i l (omega (arith, mul-le-mul-right w lt, bt .there)) (subst (λ (y : ℕ). getD keys (y * w - 1) 0 ≤ t) m (subst (λ (y : ℕ). y ≤ t) (words x c1) (rw last at (cut .before (omega arith)))))
+          let sep : getD keys ((a + u + x * u) * w - 1) 0 ≤ t = rw (← words x c1) (rw last at (cut .before (omega arith))) in
+          upto (a + suc x * u) i l (omega (arith, mul-le-mul-right w lt, bt .there)) (rw m at sep)
 
   child-there : (a + j * u + min u (r - j * u)) * w < length keys + w
   child-there =

@@ -7,15 +7,15 @@ use native.Mathlib.Omega.{arith}
 use native.Mathlib.Nat.{mul-le-mul-right, mul-le-mul-left, pow-zero, zero-mul, zero-add}
 use lib.ListN.{length, getD}
 use Rattle.model.specs.Shape.{leavesOf}
-use Rattle.model.specs.Numbering.{nodes, leafNode, nodeWord}
+use Rattle.model.specs.Numbering.{nodeWord}
 use Rattle.tree.specs.Levels.{innersOver, Room}
-use Rattle.tree.specs.Ranges.{Cut, Between}
-use Rattle.tree.specs.Descent.{Leaf, Down, Found, Position}
+use Rattle.descent.specs.Ranges.{Cut, Between}
+use Rattle.descent.specs.Descent.{Leaf, Down, Found, Position}
 use Rattle.tree.proofs.Leaves.{leaf-there, leaves-low, leaves-high}
-use Rattle.tree.proofs.Counts.{count-none}
-use Rattle.tree.proofs.Ranges.{count-in-leaf}
+use Rattle.descent.proofs.Counts.{count-none}
+use Rattle.descent.proofs.Ranges.{count-in-leaf}
 use Rattle.tree.proofs.Numbers.{leaf-in, leaf-closed, inners-le}
 use Rattle.tree.proofs.Packings.{by-leaf, leaves-at}
 
 -- ---- a leaf
 module _ {d k n first a : ℕ} (h : Leaf d k n first a) where
@@ -35,7 +35,9 @@ module _ {d k n first a : ℕ} (h : Leaf d k n first a) where
     within = omega (arith, cut .upto, h .there);
     counts = λ keys e rising p bt.
         sym (count-in-leaf keys xs (d - 1) t a (nodeWord d first) j (omega (arith, h .order-low)) rising
-        (λ i l s. subst (λ (x : ℕ). getD xs (nodeWord d x + i) 0 ≡ getD keys (a * (d - 1) + i) 0) (sym (h .number)) (leaves-at (nodeWord d) d (h .order-low) keys xs (by-leaf (nodeWord d) d (h .order-low) keys xs p) a i l s))
+        (λ i l s.
+        let at-leaf = leaves-at (nodeWord d) d (h .order-low) keys xs (by-leaf (nodeWord d) d (h .order-low) keys xs p) a i l s in
+        subst (λ (x : ℕ). getD xs (nodeWord d x + i) 0 ≡ getD keys (a * (d - 1) + i) 0) (sym (h .number)) at-leaf)
         (subst (λ (x : ℕ). Cut xs (nodeWord d first) (min (d - 1) (x - a * (d - 1))) t j) (sym e) cut) bt);
   }
 
@@ -59,7 +61,8 @@ module _ {d k n u under first a r : ℕ} (h : Down d k n 0 u under first a r) wh
 
 -- ---- the whole tree
 module _ {d k n : ℕ} (h : Room d k n) (p : 0 < k) where
-  pub down-top : {level u under : ℕ} → u ≡ d ^ level / d → under ≡ innersOver d level → leavesOf d k ≤ d ^ level → Down d k n level u under 0 0 (leavesOf d k)
+  pub down-top : {level u under : ℕ} → u ≡ d ^ level / d → under ≡ innersOver d level → leavesOf d k ≤ d ^ level
+      → Down d k n level u under 0 0 (leavesOf d k)
   down-top {level} e f wide =
       record {
         order-low = h .order-low;

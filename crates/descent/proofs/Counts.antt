@@ -15,12 +15,15 @@ pub count-is : (keys : List ℕ) (t c : ℕ) → c ≤ length keys
     → ((i : ℕ) → i < c → getD keys i 0 ≤ t) → ((i : ℕ) → c ≤ i → i < length keys → t < getD keys i 0) → keysUpTo keys t ≡ c
 unfolding keysUpTo
 count-is [] t c h lo hi = omega arith
-count-is (x ∷ xs) t zero h lo hi = by-test (leb x t) refl (count-is xs t zero zero-le (λ i l. omega arith) (λ i l k. hi (suc i) zero-le (suc-le-suc k)))
+count-is (x ∷ xs) t zero h lo hi =
+    by-test (leb x t) refl (count-is xs t zero zero-le (λ i l. omega arith) (λ i l k. hi (suc i) zero-le (suc-le-suc k)))
   where
     by-test : (b : Bool) → leb x t ≡ b → keysUpTo xs t ≡ 0 → cond b (suc (keysUpTo xs t)) (keysUpTo xs t) ≡ 0
     by-test true e n = absurd (omega (arith, leb-true x t e, hi 0 zero-le (omega arith)))
     by-test false e n = n
-count-is (x ∷ xs) t (suc c) h lo hi = by-test (leb x t) refl (count-is xs t c (le-of-suc-le-suc h) (λ i l. lo (suc i) (suc-le-suc l)) (λ i l k. hi (suc i) (suc-le-suc l) (suc-le-suc k)))
+count-is (x ∷ xs) t (suc c) h lo hi =
+    by-test (leb x t) refl
+    (count-is xs t c (le-of-suc-le-suc h) (λ i l. lo (suc i) (suc-le-suc l)) (λ i l k. hi (suc i) (suc-le-suc l) (suc-le-suc k)))
   where
     by-test : (b : Bool) → leb x t ≡ b → keysUpTo xs t ≡ c → cond b (suc (keysUpTo xs t)) (keysUpTo xs t) ≡ suc c
     by-test true e n = ap suc n

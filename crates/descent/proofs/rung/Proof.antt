@@ -1,9 +1,9 @@
--- `tree::rung` meets its contract: a case for each way that its two tests come out. Assumes nothing.
+-- `descent::rung` meets its contract: a case for each way that its two tests come out. Assumes nothing.
 use native.Mathlib.Omega.{arith}
 use borrow.Author.Needs.{needs}
-use Rattle.tree.proofs.Ranges.{bracket-up, bracket-down}
-use Rattle.tree.proofs.rung.Statement.{statement}
-use Rattle.tree.proofs.rung.Tie as tie
+use Rattle.descent.proofs.Ranges.{bracket-up, bracket-down}
+use Rattle.descent.proofs.rung.Statement.{statement}
+use Rattle.descent.proofs.rung.Tie as tie
 
 add-if1 : tie.Need-add-if1
 add-if1 c = search needs

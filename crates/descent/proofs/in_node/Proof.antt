@@ -1,12 +1,9 @@
--- `tree::in_node` meets its contract. Assumes nothing.
-use Prim.Native.Nat.{ℕ, _+_, _-_, _/_}
-use mathlib.Core.Path.{_≡_, sym}
-use Rattle.model.specs.Numbering.{nodeWord}
-use Rattle.tree.proofs.Descents.{no-node, node-words, node-long}
+-- `descent::in_node` meets its contract. Assumes nothing.
+use Rattle.descent.proofs.Descents.{no-node, node-words, node-long}
 use borrow.Author.Needs.{needs}
 use native.Mathlib.Omega.{arith}
-use Rattle.tree.proofs.in_node.Statement.{statement}
-use Rattle.tree.proofs.in_node.Tie as tie
+use Rattle.descent.proofs.in_node.Statement.{statement}
+use Rattle.descent.proofs.in_node.Tie as tie
 
 returns : tie.Need-returns
 returns c = no-node (c .before .before .pre) (omega arith)
@@ -33,9 +30,9 @@ cast-result c = search needs
 
 returns-2 : tie.Need-returns-2
 returns-2 c =
-    let words = c .before .before .before .words-used .ensures in
-    let first = c .before .node-word .ensures .0 in
-    rw (← words, ← first) (c .cut .ensures)
+    let used = c .before .before .before .words-used .ensures in
+    let word = c .before .node-word .ensures .0 in
+    rw (← used, ← word) (c .cut .ensures)
 
 pub in-node-spec : {M : Type 1} → statement M
 in-node-spec =

@@ -1,11 +1,11 @@
--- `tree::unit_below` meets its contract. Assumes nothing.
+-- `descent::unit_below` meets its contract. Assumes nothing.
 use Prim.Native.Nat.{ℕ, _/_}
 use mathlib.Core.Path.{sym, ap, _∙_}
 use native.Mathlib.Omega.{arith}
 use borrow.Author.Needs.{needs}
-use Rattle.tree.proofs.Descents.{unit-low}
-use Rattle.tree.proofs.unit_below.Statement.{statement}
-use Rattle.tree.proofs.unit_below.Tie as tie
+use Rattle.descent.proofs.Descents.{unit-low}
+use Rattle.descent.proofs.unit_below.Statement.{statement}
+use Rattle.descent.proofs.unit_below.Tie as tie
 
 sub-result : tie.Need-sub-result
 sub-result c = search needs

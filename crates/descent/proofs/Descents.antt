@@ -4,18 +4,19 @@ use Prim.Native.Nat.{ℕ, zero, suc, _+_, _-_, _*_, _/_, _^_, _≤_, _<_, min}
 use mathlib.Core.Path.{_≡_, sym, ap, ap₂, _∙_, subst}
 use mathlib.Core.List.{List}
 use native.Mathlib.Omega.{arith}
-use native.Mathlib.Nat.{le-trans, mul-le-mul-right, mul-le-mul-left, le-div-iff-mul-le, div-lt-iff-lt-mul, div-eq-of-lt, pow-zero, pow-suc, one-le-pow, mul-div-cancel, mul-comm}
+use native.Mathlib.Nat.{le-trans, mul-le-mul-right, mul-le-mul-left, mul-comm, pow-zero, pow-suc, one-le-pow}
+use native.Mathlib.Nat.{le-div-iff-mul-le, div-lt-iff-lt-mul, div-eq-of-lt, mul-div-cancel}
 use lib.ListN.{length, getD}
 use lib.Arith.{digits-div}
 use Rattle.model.specs.Numbering.{nodes, leafNode, innerNode, nodeWord}
 use Rattle.model.specs.Tree.{Packed, Rising, keysUpTo}
 use Rattle.tree.specs.Levels.{innersOver}
-use Rattle.tree.specs.Ranges.{Cut, Between}
-use Rattle.tree.specs.Descent.{Node, Down, Found, childNode}
+use Rattle.descent.specs.Ranges.{Cut, Between}
+use Rattle.descent.specs.Descent.{Node, Down, Found, childNode}
 use Rattle.tree.proofs.Numbers.{leaf-in, nodes-mono, leaf-closed, inners-le}
 use Rattle.tree.proofs.Runs.{leaf-child}
-use Rattle.tree.proofs.Ranges.{between-child}
+use Rattle.descent.proofs.Ranges.{between-child}
 use Rattle.tree.proofs.Packings.{by-leaf, separators-at}
 
 -- ---- the leaves below each word
 module _ (d : ℕ) (two : 2 ≤ d) where
@@ -119,12 +120,12 @@ module _ {d k n l u under first a r : ℕ} (h : Down d k n (suc l) u under first
       }
 
   -- child j, where j of the separators are at most t
-  module _ (j : ℕ) (few : j ≤ (r - 1) / u) where
+  module _ {xs : List ℕ} {t j : ℕ} (cut : Cut xs (nodeWord d (first + under)) ((r - 1) / u) t j) where
     pub child-inside : j * u < r
-    child-inside = omega (arith, le-div-iff-mul-le {k = u} {x = j} {y = r - 1} pos .0 few, h .some)
+    child-inside = omega (arith, le-div-iff-mul-le {k = u} {x = j} {y = r - 1} pos .0 (cut .upto), h .some)
 
     child-is : childNode first under j ≡ leafNode d (a + j * u)
-    child-is = child-number j (omega (arith, node-words down-node))
+    child-is = child-number j (omega (arith, cut .upto, node-words down-node))
 
     pub child-small : first + j * under + 1 ≤ 131073
     child-small = omega (arith, child-is, leaf-double (a + j * u), child-inside, leaves-few)
@@ -152,25 +153,29 @@ module _ {d k n l u under first a r : ℕ} (h : Down d k n (suc l) u under first
         }
 
     -- what the child finds is what the node finds
-    pub found-child : {xs : List ℕ} {t c : ℕ} → Cut xs (nodeWord d (first + under)) ((r - 1) / u) t j → Found xs d k t (a + j * u) (min u (r - j * u)) c → Found xs d k t a r c
-    found-child {xs} {t} {c} cut f = record { within = f .within; counts = counts }
+    pub found-child : {c : ℕ} → Found xs d k t (a + j * u) (min u (r - j * u)) c → Found xs d k t a r c
+    found-child {c} f = record { within = f .within; counts = counts }
       where
         counts : (keys : List ℕ) → length keys ≡ k → Rising keys → Packed (nodeWord d) d keys xs → Between keys (d - 1) t a r → c ≡ keysUpTo keys t
-        counts keys e rising p bt = f .counts keys e rising p (between-child keys xs (d - 1) t a r u (nodeWord d (first + under)) j (omega (arith, h .order-low)) pos rising words cut bt)
+        counts keys e rising p bt =
+            f .counts keys e rising p
+            (between-child keys xs (d - 1) t a r u (nodeWord d (first + under)) j (omega (arith, h .order-low)) pos rising words cut bt)
           where
-            at-l : (i : ℕ) → i < (r - 1) / d ^ l → i < d - 1 → getD xs (nodeWord d (first + under) + i) 0 ≡ getD keys ((a + d ^ l + i * d ^ l) * (d - 1) - 1) 0
+            at-l : (i : ℕ) → i < (r - 1) / d ^ l → i < d - 1
+                → getD xs (nodeWord d (first + under) + i) 0 ≡ getD keys ((a + d ^ l + i * d ^ l) * (d - 1) - 1) 0
             at-l i q b =
                 let s : suc i * d ^ l ≤ r - 1 = le-div-iff-mul-le {k = d ^ l} {x = suc i} {y = r - 1} (rw unit at pos) .0 q in
                 let m : a + d ^ l + i * d ^ l + 1 ≤ a + r = omega (arith, h .some) in
                 let there : (a + d ^ l + i * d ^ l) * (d - 1) < length keys = omega (arith, mul-le-mul-right (d - 1) m, bt .there) in
                 let node : innerNode d (a + d ^ l) ≡ first + under = omega (arith, rw unit at node-number) in
                 let w = separators-at (nodeWord d) d (h .order-low) keys xs (by-leaf (nodeWord d) d (h .order-low) keys xs p) l (h .block) i b in
-                subst (λ (x : ℕ). getD xs (nodeWord d x + i) 0 ≡ getD keys ((a + d ^ l + i * d ^ l) * (d - 1) - 1) 0) node
-                (subst (λ (x : ℕ). (x + d ^ l + i * d ^ l) * (d - 1) < length keys → getD xs (nodeWord d (innerNode d (x + d ^ l)) + i) 0 ≡ getD keys ((x + d ^ l + i * d ^ l) * (d - 1) - 1) 0) (sym (h .border)) w there)
+                rw (← node) ((rw (← h .border) at w) there)
 
-            words : (i : ℕ) → i < (r - 1) / u → getD xs (nodeWord d (first + under) + i) 0 ≡ getD keys ((a + u + i * u) * (d - 1) - 1) 0
+            words : (i : ℕ) → i < (r - 1) / u
+                → getD xs (nodeWord d (first + under) + i) 0 ≡ getD keys ((a + u + i * u) * (d - 1) - 1) 0
             words i q = rw unit (at-l i (rw unit at q) (omega (arith, node-words down-node)))
 
 -- a level that is not 0
 pub raised : {d k n level u under first a r : ℕ} → 0 < level → Down d k n level u under first a r → Down d k n (suc (level - 1)) u under first a r
-raised {d} {k} {n} {level} {u} {under} {first} {a} {r} up h = subst (λ (x : ℕ). Down d k n x u under first a r) {x = level} {y = suc (level - 1)} (omega arith) h
+raised {d} {k} {n} {level} {u} {under} {first} {a} {r} up h =
+    subst (λ (x : ℕ). Down d k n x u under first a r) {x = level} {y = suc (level - 1)} (omega arith) h

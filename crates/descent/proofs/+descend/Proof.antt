@@ -1,24 +1,24 @@
--- `tree::descend` meets its contract: what a child finds is what its parent finds. Measure: the level. Assumes
+-- `descent::descend` meets its contract: what a child finds is what its parent finds. Measure: the level. Assumes
 -- nothing.
 use Prim.Native.Nat.{ℕ, suc, _-_, _<_}
 use lib.ListN.{length}
-use Rattle.tree.specs.Descent.{Down}
-use Rattle.tree.proofs.Descents.{raised, down-node, under-low, leaves-few, child-small, child-inside, down-child, found-child}
-use Rattle.tree.proofs.Positions.{down-leaf, found-one}
+use Rattle.descent.specs.Descent.{Down}
+use Rattle.descent.proofs.Descents.{raised, down-node, under-low, leaves-few, child-small, child-inside, down-child, found-child}
+use Rattle.descent.proofs.Positions.{down-leaf, found-one}
 use borrow.Author.Needs.{needs}
 use native.Mathlib.Omega.{arith}
 use borrow.Fn.Kinds.{In}
 use borrow.Fn.PlainCycle.{Measures, is, falls, and}
-use Rattle.tree.proofs.descend.Reads as descend
-use Rattle.tree.proofs.descend.Kinds as descend-kinds
-use Rattle.tree.proofs.+descend.Lts-descend as descend-lts
+use Rattle.descent.proofs.descend.Reads as descend
+use Rattle.descent.proofs.descend.Kinds as descend-kinds
+use Rattle.descent.proofs.+descend.Lts-descend as descend-lts
 use Rattle.tree.proofs.at_most.Reads as at-most-reads
-use Rattle.tree.proofs.child_node.Reads as child-node-reads
-use Rattle.tree.proofs.in_leaf.Reads as in-leaf-reads
-use Rattle.tree.proofs.in_node.Reads as in-node-reads
-use Rattle.tree.proofs.unit_below.Reads as unit-below-reads
-use Rattle.tree.proofs.+descend.{statement}
-use Rattle.tree.proofs.+descend.Tie.{close}
+use Rattle.descent.proofs.child_node.Reads as child-node-reads
+use Rattle.descent.proofs.in_leaf.Reads as in-leaf-reads
+use Rattle.descent.proofs.in_node.Reads as in-node-reads
+use Rattle.descent.proofs.unit_below.Reads as unit-below-reads
+use Rattle.descent.proofs.+descend.{statement}
+use Rattle.descent.proofs.+descend.Tie.{close}
 
 abbrev μ-descend : Measures 2 descend-kinds.ps ℕ
 μ-descend κs a = a .1 .1 .1 .0
@@ -56,26 +56,27 @@ module _ (t : ℕ) where
       let arm = c .before .before in
       found-one (rw (arm .if1 .taken) at (arm .before .pre .1)) (c .in-leaf .ensures)
 
-  -- ---- a node, and then its child: the point where j separators were counted
+  -- ---- a node, and then its child; n is the point where the node's separators were counted
   in-node-requires : descend-lts.Need-in-node-requires (claims t) (descend-at t) descend.Post
   in-node-requires c κs = down-node (raised (omega arith) (c .before .before .pre .1))
 
   down : (n : descend-lts.After-in-node (claims t) (descend-at t) descend.Post)
-      → let a = n .before .before .before .args in Down (a .d) (a .k) (length (a .index .now .now)) (suc (a .level - 1)) (a .u) (a .under) (a .first .0) (a .a) (a .r)
+      → let a = n .before .before .before .args in
+      Down (a .d) (a .k) (length (a .index .now .now)) (suc (a .level - 1)) (a .u) (a .under) (a .first .0) (a .a) (a .r)
   down n = raised (omega arith) (n .before .before .before .pre .1)
 
   child-node-requires : descend-lts.Need-child-node-requires (claims t) (descend-at t) descend.Post
-  child-node-requires n κs = omega (arith, child-small (down n) (n .in-node .result) (n .in-node .ensures .upto))
+  child-node-requires n κs = omega (arith, child-small (down n) (n .in-node .ensures))
 
   mul-past : descend-lts.Need-mul-past (claims t) (descend-at t) descend.Post
   mul-past c =
       let n = c .before in
-      omega (arith, child-inside (down n) (n .in-node .result) (n .in-node .ensures .upto))
+      omega (arith, child-inside (down n) (n .in-node .ensures))
 
   sub-at-most : descend-lts.Need-sub-at-most (claims t) (descend-at t) descend.Post
   sub-at-most c =
       let n = c .before in
-      omega (arith, child-inside (down n) (n .in-node .result) (n .in-node .ensures .upto))
+      omega (arith, child-inside (down n) (n .in-node .ensures))
 
   at-most-requires : descend-lts.Need-at-most-requires (claims t) (descend-at t) descend.Post
   at-most-requires c κs = search needs
@@ -94,17 +95,19 @@ module _ (t : ℕ) where
   add-descend : descend-lts.Need-add-descend (claims t) (descend-at t) descend.Post
   add-descend c =
       let n = c .before .before .before in
-      omega (arith, child-inside (down n) (n .in-node .result) (n .in-node .ensures .upto), leaves-few (down n))
+      omega (arith, child-inside (down n) (n .in-node .ensures), leaves-few (down n))
 
   descend-requires : descend-lts.Need-descend-requires (claims t) (descend-at t) descend.Post
   descend-requires c κs =
       let n = c .before .before .before in
-      (omega arith, rw (c .before .at-most .ensures) (down-child (down n) (n .in-node .result) (n .in-node .ensures .upto) (c .before .before .child-node .ensures) (c .unit-below .ensures)))
+      let child = down-child (down n) (n .in-node .ensures) (c .before .before .child-node .ensures) (c .unit-below .ensures) in
+      (omega arith, rw (c .before .at-most .ensures) child)
 
   returns-2 : descend-lts.Need-returns-2 (claims t) (descend-at t) descend.Post
   returns-2 c =
       let n = c .before .before .before .before in
-      found-child (down n) (n .in-node .result) (n .in-node .ensures .upto) (n .in-node .ensures) (rw (c .before .before .at-most .ensures) at (c .descend .ensures))
+      let child = rw (c .before .before .at-most .ensures) at (c .descend .ensures) in
+      found-child (down n) (n .in-node .ensures) child
 
 pub +descend-spec : {M : Type 1} → statement M
 +descend-spec = close μ-descend λ t. descend-lts.spec (claims t)

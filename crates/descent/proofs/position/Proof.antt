@@ -1,11 +1,11 @@
--- `tree::position` meets its contract. Assumes nothing.
+-- `descent::position` meets its contract. Assumes nothing.
 use native.Mathlib.Nat.{le-trans}
 use Rattle.tree.proofs.Leaves.{leaves-le}
-use Rattle.tree.proofs.Positions.{position-none, position-found, down-top}
+use Rattle.descent.proofs.Positions.{position-none, position-found, down-top}
 use borrow.Author.Needs.{needs}
 use native.Mathlib.Omega.{arith}
-use Rattle.tree.proofs.position.Statement.{statement}
-use Rattle.tree.proofs.position.Tie as tie
+use Rattle.descent.proofs.position.Statement.{statement}
+use Rattle.descent.proofs.position.Tie as tie
 
 returns : tie.Need-returns
 returns c = position-none (c .if1 .taken)

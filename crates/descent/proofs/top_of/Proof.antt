@@ -1,16 +1,16 @@
--- `tree::top_of` meets its contract. Invariant: the unit, the width and the inner nodes of the level. Measure: by
+-- `descent::top_of` meets its contract. Invariant: the unit, the width and the inner nodes of the level. Measure: by
 -- how many leaves the level is too narrow. Assumes nothing.
 use Prim.Native.Nat.{ℕ, _≤_, _<_, _+_, _-_, _*_, _/_, _^_}
 use mathlib.Core.Path.{_≡_, sym, ap₂, _∙_}
 use native.Mathlib.Nat.{pow-zero, pow-suc, add-comm, mul-le-mul-left}
 use native.Mathlib.Numerals.{add-one}
 use Rattle.tree.specs.Levels.{innersOver}
 use Rattle.tree.proofs.Runs.{over-zero, over-step}
-use Rattle.tree.proofs.Descents.{unit-none, unit-of}
+use Rattle.descent.proofs.Descents.{unit-none, unit-of}
 use borrow.Author.Needs.{needs}
 use native.Mathlib.Omega.{arith}
-use Rattle.tree.proofs.top_of.Statement.{statement}
-use Rattle.tree.proofs.top_of.Tie as tie
+use Rattle.descent.proofs.top_of.Statement.{statement}
+use Rattle.descent.proofs.top_of.Tie as tie
 
 abbrev Inv-loop : tie.InvT-loop
 Inv-loop d n level₀ unit₀ width₀ under₀ level unit width under =

@@ -7,8 +7,8 @@ use mathlib.Core.List.{List}
 use lib.ListN.{length}
 use Rattle.model.specs.Numbering.{nodes, leafNode, nodeWord}
 use Rattle.model.specs.Tree.{Packed, Rising, keysUpTo, pagePosition}
 use Rattle.tree.specs.Levels.{innersOver}
-use Rattle.tree.specs.Ranges.{Between}
+use Rattle.descent.specs.Ranges.{Between}
 
 -- the number of the first leaf below child j of the node over the leaves from number `first` on, `under` nodes
 -- below each word: the node itself is numbered after all of child 0

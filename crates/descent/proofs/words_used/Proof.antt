@@ -1,12 +1,12 @@
--- `tree::words_used` meets its contract. Assumes nothing.
+-- `descent::words_used` meets its contract. Assumes nothing.
 use Prim.Native.Nat.{ℕ, _-_, _/_}
 use mathlib.Core.Path.{sym, ap, _∙_}
 use native.Mathlib.Omega.{arith}
 use native.Mathlib.Nat.{div-one, mul-le-mul, lt-of-le-of-lt}
 use borrow.Author.Needs.{needs}
-use Rattle.tree.proofs.Descents.{full-words}
-use Rattle.tree.proofs.words_used.Statement.{statement}
-use Rattle.tree.proofs.words_used.Tie as tie
+use Rattle.descent.proofs.Descents.{full-words}
+use Rattle.descent.proofs.words_used.Statement.{statement}
+use Rattle.descent.proofs.words_used.Tie as tie
 
 sub-result : tie.Need-sub-result
 sub-result c = search needs

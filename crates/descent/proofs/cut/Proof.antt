@@ -1,10 +1,9 @@
--- `tree::cut` meets its contract, on any words: each rung halves the bracket that holds the cut, from 63 words
+-- `descent::cut` meets its contract, on any words: each rung halves the bracket that holds the cut, from 63 words
 -- down to none. Assumes nothing.
-use native.Mathlib.Omega.{arith}
 use borrow.Author.Needs.{needs}
-use Rattle.tree.proofs.Ranges.{bracket-end}
-use Rattle.tree.proofs.cut.Statement.{statement}
-use Rattle.tree.proofs.cut.Tie as tie
+use Rattle.descent.proofs.Ranges.{bracket-end}
+use Rattle.descent.proofs.cut.Statement.{statement}
+use Rattle.descent.proofs.cut.Tie as tie
 
 rung-requires : tie.Need-rung-requires
 rung-requires c κs = search needs

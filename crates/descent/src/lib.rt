@@ -1,0 +1,206 @@
+// The search in the packed tree (01, "Packed tree"): the position of a time, found by a recursive descent from node
+// number to node number, the remaining level falling at each call.
+ghost use mathlib.Core.Path.{_≡_};
+ghost use Prim.Native.Nat.{_+_, _-_, _*_, _/_, _≤_, _<_, _^_};
+ghost use lib.ListN.{length};
+ghost use Rattle.model.specs.Numbering.{nodeWord};
+ghost use Rattle.tree.specs.Levels.{innersOver, Room};
+ghost use Rattle.descent.specs.Ranges.{Bracket, Cut};
+ghost use Rattle.descent.specs.Descent.{Leaf, Node, Down, Found, Position, childNode};
+use model::NodeNumber;
+use model::PagePosition;
+
+// A level that is wide enough for all leaves, the leaves below each word there, and the inner nodes over a full run.
+pub struct Top {
+    pub level: u32,
+    pub unit: u32,
+    pub under: u32,
+}
+
+// One rung of the search: k words more are passed where there are so many and the last of them is at most t.
+fn rung(index: &[u64], at: usize, c: usize, low: usize, k: usize, t: u64) -> usize
+    requires { ⌜ at + c ≤ length (now index) ⌝ }
+    requires { ⌜ (0 < k) × (k ≤ 32) ⌝ }
+    requires { ⌜ Bracket (now index) at c t low (2 * k - 1) ⌝ }
+    ensures { λ r. ⌜ Bracket (now (index .entry)) at c t r (k - 1) ⌝ }
+{
+    if c < low + k {
+        return low;
+    }
+    if index[at + (low + k - 1)] <= t {
+        return low + k;
+    }
+    low
+}
+
+// How many of the c words from `at` on are at most t. The rungs are written out one by one: in a row the
+// compiler makes conditional moves of their comparisons.
+fn cut(index: &[u64], at: usize, c: usize, t: u64) -> usize
+    requires { ⌜ at + c ≤ length (now index) ⌝ }
+    requires { ⌜ c ≤ 63 ⌝ }
+    ensures { λ r. ⌜ Cut (now (index .entry)) at c t r ⌝ }
+{
+    let l32 = rung(index, at, c, 0, 32, t);
+    let l16 = rung(index, at, c, l32, 16, t);
+    let l8 = rung(index, at, c, l16, 8, t);
+    let l4 = rung(index, at, c, l8, 4, t);
+    let l2 = rung(index, at, c, l4, 2, t);
+    rung(index, at, c, l2, 1, t)
+}
+
+// Of leaf a, whose number is first: the keys before it, and those of its own that are at most t.
+fn in_leaf(index: &[u64], d: u32, k: u32, first: NodeNumber, a: u32, t: u64) -> u32
+    requires { ⌜ Leaf d k (length (now index)) (first .0) a ⌝ }
+    ensures { λ c. ⌜ Found (now (index .entry)) d k t a 1 c ⌝ }
+{
+    let before = a * (d - 1);
+    let used = tree::at_most(d - 1, k - before);
+    let j = cut(index, tree::node_word(d, first), used as usize, t);
+    before + (j as u32)
+}
+
+// The words that a node over r leaves uses, u leaves below each: by the shape, never by what they hold. Most
+// nodes stand over single leaves or are full, and need no division.
+fn words_used(d: u32, u: u32, r: u32) -> u32
+    requires { ⌜ (2 ≤ d) × (d ≤ 64) ⌝ }
+    requires { ⌜ 0 < u ⌝ }
+    requires { ⌜ (u < r) × (r ≤ 65536) ⌝ }
+    ensures { λ c. ⌜ c ≡ (r - 1) / u ⌝ }
+{
+    if u == 1 {
+        return r - 1;
+    }
+    if r == u * d {
+        return d - 1;
+    }
+    (r - 1) / u
+}
+
+// Of the node over r leaves from the one with the number first on: how many separators are at most t. Where the
+// right edge skips the level there is no node, and none.
+fn in_node(index: &[u64], d: u32, u: u32, under: u32, first: NodeNumber, r: u32, t: u64) -> u32
+    requires { ⌜ Node d (length (now index)) u under (first .0) r ⌝ }
+    ensures { λ j. ⌜ Cut (now (index .entry)) (nodeWord d (first .0 + under)) ((r - 1) / u) t j ⌝ }
+{
+    if r <= u {
+        return 0;
+    }
+    let c = words_used(d, u, r);
+    let at = tree::node_word(d, NodeNumber(first.0 + under));
+    cut(index, at, c as usize, t) as u32
+}
+
+// The number of the first leaf below child j: the node itself is numbered after all of child 0.
+fn child_node(first: NodeNumber, under: u32, j: u32) -> NodeNumber
+    requires { ⌜ first .0 + j * under + 1 < 4294967296 ⌝ }
+    ensures { λ r. ⌜ r .0 ≡ childNode (first .0) under j ⌝ }
+{
+    NodeNumber(first.0 + j * under + tree::at_most(j, 1))
+}
+
+// The leaves below each word one level down, 0 for a leaf's keys: at the lowest levels without a division.
+fn unit_below(d: u32, level: u32, u: u32) -> u32
+    requires { ⌜ 2 ≤ d ⌝ }
+    requires { ⌜ 0 < level ⌝ }
+    requires { ⌜ u ≡ d ^ level / d ⌝ }
+    ensures { λ r. ⌜ r ≡ u / d ⌝ }
+{
+    if level <= 2 {
+        return level - 1;
+    }
+    u / d
+}
+
+// The number of the k keys that are at most t, found from the top of the leaves a to a + r - 1 down. It takes the
+// slice by reference: the compiler then makes a loop of the calls.
+fn descend(
+    index: &&[u64],
+    d: u32,
+    k: u32,
+    level: u32,
+    u: u32,
+    under: u32,
+    first: NodeNumber,
+    a: u32,
+    r: u32,
+    t: u64,
+) -> u32
+    requires { ⌜ Down d k (length (now (now index))) level u under (first .0) a r ⌝ }
+    ensures { λ c. ⌜ Found (now (now (index .entry))) d k t a r c ⌝ }
+{
+    if level == 0 {
+        return in_leaf(*index, d, k, first, a, t);
+    }
+    let j = in_node(*index, d, u, under, first, r, t);
+    let child = child_node(first, under, j);
+    let past = j * u;
+    let left = tree::at_most(u, r - past);
+    let next = unit_below(d, level, u);
+    descend(
+        index,
+        d,
+        k,
+        level - 1,
+        next,
+        under - u,
+        child,
+        a + past,
+        left,
+        t,
+    )
+}
+
+// A level that is wide enough for n leaves.
+fn top_of(d: u32, n: u32) -> Top
+    requires { ⌜ 2 ≤ d ⌝ }
+    requires { ⌜ d ≤ 64 ⌝ }
+    requires { ⌜ n ≤ 65536 ⌝ }
+    ensures { λ r. ⌜ r .unit ≡ d ^ (r .level) / d ⌝ }
+    ensures { λ r. ⌜ r .under ≡ innersOver d (r .level) ⌝ }
+    ensures { λ r. ⌜ n ≤ d ^ (r .level) ⌝ }
+{
+    let mut level: u32 = 0;
+    let mut unit: u32 = 0;
+    let mut width: u32 = 1;
+    let mut under: u32 = 0;
+    while width < n {
+        under = under + width;
+        unit = width;
+        width = width * d;
+        level += 1;
+    }
+    Top {
+        level: level,
+        unit: unit,
+        under: under,
+    }
+}
+
+// The position of the page in which the time t lies, in the index of k keys.
+pub fn position(index: &[u64], d: usize, k: usize, t: u64) -> PagePosition
+    requires { ⌜ Room d k (length (now index)) ⌝ }
+    ensures { λ r. ⌜ Position (now (index .entry)) d k t (r .0) ⌝ }
+{
+    if k == 0 {
+        return PagePosition(0);
+    }
+    let order = d as u32;
+    let n = ((k as u32) + (order - 2)) / (order - 1);
+    let top = top_of(order, n);
+    let c = descend(
+        &index,
+        order,
+        k as u32,
+        top.level,
+        top.unit,
+        top.under,
+        NodeNumber(0),
+        0,
+        n,
+        t,
+    );
+    if c == 0 {
+        return PagePosition(0);
+    }
+    PagePosition(c - 1)
+}
