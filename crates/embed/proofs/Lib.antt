@@ -1,2 +1,4 @@
 pub mod Operands
+pub mod Bodies
 pub mod Shells
+pub mod Files

@@ -20,12 +20,15 @@ use numbered::answer::YkTable;
 use numbered::needed::YkLengths;
 use numbered::outset::YkView;
 
-// The version of the archive: that of the header and of the Rust crate, as one number.
+// 0.1.0, as the header and the Rust crate have it: 65,536 × major + 256 × minor + patch.
+const VERSION: u32 = 256;
+
+// The version of the archive.
 #[no_mangle]
 pub extern "C" fn yk_version() -> u32
     ensures { λ r. ⌜ r ≡ 0 * 65536 + 1 * 256 + 0 ⌝ }
 {
-    256
+    VERSION
 }
 
 #[no_mangle]

@@ -1,0 +1,18 @@
+-- Pieces of MIR that shells are made of. Assumes nothing.
+use Prim.Native.Nat.{ℕ}
+use mathlib.Core.List.{List, [], _∷_}
+use mir.Syntax.{Ty, Local, local, valueLocal, place, field, deref, Opd, copy, addrOf, aggregate, Body, seq, assign}
+
+abbrev pub value : Ty → Local
+value τ = local τ valueLocal
+
+-- these locals as operands
+abbrev pub copies : List ℕ → List Opd
+copies [] = []
+copies (i ∷ is) = copy (place i []) ∷ copies is
+
+-- the slice of elements τ in local i lent again: its pointer to local p, the slice to local j
+abbrev pub relent : (i p j : ℕ) → Ty → Body → Body
+relent i p j τ rest =
+    seq (assign (place p []) (addrOf (place i (field 0 ∷ deref τ ∷ []))))
+    (seq (assign (place j []) (aggregate (copy (place p []) ∷ copy (place i (field 1 ∷ [])) ∷ []))) rest)
