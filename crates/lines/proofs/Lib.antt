@@ -1,2 +1,3 @@
 pub mod Numerals
 pub mod Gatherings
+pub mod TextCases

@@ -57,7 +57,14 @@ fn list_time(
 }
 
 // A line for each different time among the records.
-fn list(s: Numbers, log: &[u8], index: &[u64], current: &[u8], out: &mut [u8], buffer: &mut [u8]) -> u8
+fn list(
+    s: Numbers,
+    log: &[u8],
+    index: &[u64],
+    current: &[u8],
+    out: &mut [u8],
+    buffer: &mut [u8],
+) -> u8
     requires { ⌜ 65 ≤ length (now buffer) ⌝ }
     ensures { λ r. ⌜ r ≤ 3 ⌝ }
 {

@@ -28,7 +28,8 @@ same-length c = search needs
 returns : tie.Need-returns
 returns c =
     let d = c .before .before .before .before .before in
-    let e = d .decimal .ensures .1 .1 ∙ digits-numeral (d .decimal .result) (d .before .before .before .args .n) (few d) (d .decimal .ensures .1 .0) in
+    let k = d .decimal .result in
+    let e = d .decimal .ensures .1 .1 ∙ digits-numeral k (d .before .before .before .args .n) (few d) (d .decimal .ensures .1 .0) in
     (rw e at (c .before .before .gather .ensures), omega (arith, few d, c .before .before .gather .ensures .ends, d .decimal .ensures .0))
 
 pub put-number-spec : {M : Type 1} → statement M
