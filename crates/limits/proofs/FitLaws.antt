@@ -6,7 +6,6 @@ use native.Mathlib.Omega.{arith}
 use native.Mathlib.Nat.{le-div-iff-mul-le, mul-comm}
 use lib.Dec.{leb}
 use borrow.Author.Tests.{lt-leb}
-use Rattle.limits.proofs.Tests.{leb-same}
 use Rattle.model.specs.declared.Numbers.{Numbers}
 use Rattle.model.specs.Pages.{indexNeed}
 use Rattle.model.specs.Memory.{capacity}
@@ -33,14 +32,11 @@ unfolding capacity
 files-past R entries areas n past = lt-leb n (capacity R entries areas) (omega arith)
 
 -- and all three at once, by a product in place of the division
-pub files-within : (R entries areas n : ℕ) → 1 ≤ R → n ≤ 16 → n ≤ entries → leb (8 * R * n) areas ≡ leb n (capacity R entries areas)
+pub within-capacity : (R entries areas n : ℕ) → 1 ≤ R → n ≤ 16 → n ≤ entries → 8 * R * n ≤ areas → n ≤ capacity R entries areas
 unfolding capacity
-files-within R entries areas n some few lent = leb-same (8 * R * n) areas n (capacity R entries areas) there (λ h. capacity-areas R entries areas n h some)
-  where
-    there : 8 * R * n ≤ areas → n ≤ capacity R entries areas
-    there long =
-        let g : n ≤ areas / (8 * R) = le-div-iff-mul-le {k = 8 * R} {x = n} {y = areas} (omega arith) .1 (omega arith) in
-        omega arith
+within-capacity R entries areas n some few lent long =
+    let g : n ≤ areas / (8 * R) = le-div-iff-mul-le {k = 8 * R} {x = n} {y = areas} (omega arith) .1 (omega arith) in
+    omega arith
 
 -- the five lengths and the two counts
 pub fit-of : (s : Numbers) (log index table entries areas : ℕ) → InRange s → 24 + 24 * s .records ≤ log → indexNeed (s .order) (s .page) (s .records) ≤ index → 8 * s .limit ≤ table
