@@ -25,7 +25,8 @@ use Rattle.catalogue.specs.Files.{byValue, writtenBack}
 use Rattle.catalogue.specs.Entries.{timeKept, entriesStaying, withEntries, entriesClosed}
 use Rattle.catalogue.proofs.EntryLaws.{front-by-value, written-back}
 use Rattle.limits.specs.Fit.{Fit}
-use Rattle.filing.specs.Filing.{Keeping, areasClosed}
+use Rattle.areas.specs.Moved.{areasClosed}
+use Rattle.filing.specs.Filing.{Keeping}
 use Rattle.filing.proofs.FileEntries.{kept-is, entries-closed, count-staying}
 
 module _ (s : Numbers) (log index table : List ℕ) (catalogue : List Entry) (areas : List ℕ) (c : Catalogue) (same : c ≡ byValue catalogue) where

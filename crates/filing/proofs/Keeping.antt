@@ -21,8 +21,9 @@ use Rattle.catalogue.specs.Entries.{placeOf, withEntries, entryPut}
 use Rattle.catalogue.proofs.EntryLaws.{loaded-by-value, length-by-value, front-by-value, written-back}
 use Rattle.tables.specs.declared.Worked.{Worked}
 use Rattle.tables.specs.Ways.{WorkedOut}
-use Rattle.filing.specs.Filing.{Keeping, areaPut}
-use Rattle.filing.proofs.Moves.{gap-in-front}
+use Rattle.areas.specs.Moved.{areaPut}
+use Rattle.filing.specs.Filing.{Keeping}
+use Rattle.areas.proofs.Moves.{gap-in-front}
 use Rattle.filing.proofs.FileEntries.{file-in-at, place-within}
 
 -- ---- on any entries and areas

@@ -2,15 +2,14 @@
 // areas are written where they lie. A refused call gives numbers and catalogue back as they were.
 ghost use mathlib.Core.Path.{_≡_};
 ghost use mathlib.Core.List.{List};
-ghost use mathlib.Core.Bool.{cond};
 ghost use Prim.Native.Nat.{_+_, _*_, _≤_, _<_};
 ghost use lib.ListN.{length};
 ghost use Rattle.model.specs.declared.Entry.{Entry};
-ghost use Rattle.model.specs.Files.{withCount, notOf, keepOf, dropOf};
+ghost use Rattle.model.specs.Files.{withCount, keepOf, dropOf};
 ghost use Rattle.model.specs.Promises.{storeOf};
 ghost use Rattle.catalogue.specs.Files.{byValue, writtenBack};
 ghost use Rattle.tables.specs.Ways.{Ready};
-ghost use Rattle.filing.specs.Filing.{Files, Keeping, AreaFree, areaPut, areaJoined, areasClosed};
+ghost use Rattle.filing.specs.Filing.{Files, Keeping};
 use catalogue::Catalogue;
 use model::Entry;
 use model::Numbers;
@@ -41,17 +40,6 @@ fn counted(s: Numbers, files: u32) -> Numbers
 
 // ---- keep
 
-// A table into the area of place `at`; the areas from there on go up by one.
-fn put_area(areas: &mut [u8], limit: u32, files: usize, at: usize, table: &[u8])
-    requires { ⌜ AreaFree limit files at (length (now areas)) (length (now table)) ⌝ }
-    ensures { λ _. ⌜ now (areas .exit) ≡ areaPut limit files at (now (table .entry)) (now (areas .entry)) ⌝ }
-{
-    let size = 8 * (limit as usize);
-    let low = size * at;
-    codec::move_up(areas, low, size * files, size);
-    codec::copy_front(&mut areas[low..low + size], table);
-}
-
 // The file of time t, which no question forbids. Its table is worked out first: the outset may lie in an area that is about
 // to move.
 fn keep_file(
@@ -75,7 +63,7 @@ fn keep_file(
     let mut scratch = [0u8; 8192];
     let w = tables::work_out(s, log, index, current, areas, c, t, &mut scratch[0..size]);
     let at = catalogue::place(c, files, t);
-    put_area(areas, s.limit, files, at, &scratch[0..size]);
+    areas::put_area(areas, s.limit, files, at, &scratch[0..size]);
     catalogue::inserted(
         c,
         files,
@@ -145,39 +133,6 @@ pub fn keep(
 
 // ---- drop
 
-// The area of file i down to place j, if its entry e stays. Answers the place for the next.
-fn join_area(areas: &mut [u8], size: usize, e: Entry, t: u64, i: usize, j: usize) -> usize
-    requires { ⌜ (j ≤ i) × (i < 16) ⌝ }
-    requires { ⌜ size * i + size ≤ length (now areas) ⌝ }
-    ensures is { λ _. ⌜ now (areas .exit) ≡ areaJoined (notOf t e) size i j (now (areas .entry)) ⌝ }
-    ensures next { λ r. ⌜ r ≡ cond (notOf t e) (j + 1) j ⌝ }
-{
-    if catalogue::stays(e, t) {} else {
-        return j;
-    }
-    if i == j {
-        return j + 1;
-    }
-    codec::move_down(areas, size * j, size * i, size);
-    j + 1
-}
-
-// The areas of the files that stay, closed up in one pass, and zeros in those set free.
-fn close_areas(areas: &mut [u8], limit: u32, c: Catalogue, files: usize, t: u64)
-    requires { ⌜ (limit ≤ 1024) × (files ≤ 16) ⌝ }
-    requires { ⌜ 8 * limit * files ≤ length (now areas) ⌝ }
-    ensures { λ _. ⌜ now (areas .exit) ≡ areasClosed (notOf t) limit files (c .entries) (now (areas .entry)) ⌝ }
-{
-    let size = 8 * (limit as usize);
-    let mut i = 0;
-    let mut j = 0;
-    while i < files {
-        j = join_area(areas, size, catalogue::entry_of(c, i), t, i, j);
-        i += 1;
-    }
-    codec::fill_zero(&mut areas[size * j..size * files]);
-}
-
 // Drops the count file of time t.
 pub fn drop(
     s: Numbers,
@@ -205,7 +160,7 @@ pub fn drop(
             catalogue: c,
         };
     }
-    close_areas(areas, s.limit, c, files, t);
+    areas::close_areas(areas, s.limit, c, files, t);
     let left = catalogue::closed_up(c, files, t);
     let closed = left.catalogue;
     Filed {

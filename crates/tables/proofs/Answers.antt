@@ -19,10 +19,10 @@ use Rattle.pages.specs.Paged.{Indexed, PositionIs}
 use Rattle.catalogue.specs.declared.Catalogue.{Catalogue}
 use Rattle.catalogue.specs.Files.{Loaded}
 use Rattle.limits.specs.Fit.{Fit}
-use Rattle.tables.specs.declared.Used.{Used}
+use Rattle.outsets.specs.declared.Used.{Used}
 use Rattle.tables.specs.declared.Worked.{Worked}
 use Rattle.tables.specs.Parts.{lent}
-use Rattle.tables.specs.Used.{NearestIs}
+use Rattle.outsets.specs.Used.{NearestIs}
 use Rattle.tables.specs.Ways.{Ready, WorkedOut}
 use Rattle.tables.proofs.LentFronts.{front-back, lent-beyond}
 use Rattle.tables.proofs.Chosen.{describes, position-of}

@@ -35,7 +35,7 @@ use Rattle.catalogue.specs.declared.Catalogue.{Catalogue}
 use Rattle.catalogue.specs.Files.{Loaded}
 use Rattle.catalogue.proofs.Nearest.{latest-before, earliest-after, chosen-held}
 use Rattle.pages.specs.Paged.{PositionIs}
-use Rattle.tables.specs.Used.{Describes}
+use Rattle.outsets.specs.Used.{Describes}
 use Rattle.tables.specs.Ways.{OnSide}
 
 -- a held table lies where it is said to, as the rows of the log's table of its time

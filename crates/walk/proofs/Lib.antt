@@ -1,3 +1,1 @@
-pub mod Updates
-pub mod StepLaws
 pub mod StartLaws

@@ -6,7 +6,7 @@ use native.Mathlib.Omega.{arith}
 use native.Mathlib.Nat.{sub-zero}
 use lib.ListN.{length, length-append, length-take, length-drop}
 use lib.Seq.{take-at}
-use Rattle.filing.specs.Filing.{areaPut}
+use Rattle.areas.specs.Moved.{areaPut}
 use Rattle.filing.proofs.Keeping.{keeping-of}
 use borrow.Author.Needs.{needs}
 use Rattle.filing.proofs.keep_file.Statement.{statement}

@@ -1,0 +1,81 @@
+// The outset used for a time (01, "Count files"): the nearest held table at or before it, or the nearest at or after it where
+// that one is strictly nearer in pages.
+ghost use Prim.Native.Nat.{_≤_};
+ghost use mathlib.Core.Path.{_≡_};
+ghost use lib.ListN.{length};
+ghost use Rattle.model.specs.Outset as outset;
+ghost use Rattle.pages.specs.Paged.{Indexed, PositionIs};
+ghost use Rattle.outsets.specs.Used.{NearestIs};
+use catalogue::Catalogue;
+use model::Chosen;
+use model::Held;
+use model::Numbers;
+use model::Place;
+use model::Position;
+use model::Side;
+
+// The outset used for a time, and the position of its own time.
+pub struct Used {
+    pub chosen: Chosen,
+    pub at: Position,
+}
+
+// The larger less the smaller of two page positions.
+fn apart(x: Position, y: Position) -> u32
+    ensures { λ r. ⌜ r ≡ outset.apart (x .page .0) (y .page .0) ⌝ }
+{
+    if x.page.0 < y.page.0 {
+        return y.page.0 - x.page.0;
+    }
+    x.page.0 - y.page.0
+}
+
+// The position of a time, where that of t is known.
+fn position_of(index: &[u64], s: Numbers, time: u64, t: u64, here: Position) -> Position
+    requires { ⌜ Indexed (s .order) (s .page) (s .records) (length (now index)) ⌝ }
+    requires { ⌜ PositionIs (s .order) (s .page) (s .records) t (now index) (here .page .0) ⌝ }
+    ensures { λ r. ⌜ PositionIs (s .order) (s .page) (s .records) time (now (index .entry)) (r .page .0) ⌝ }
+{
+    if time == t {
+        return here;
+    }
+    pages::position(index, s.order, s.page, s.records, time)
+}
+
+// The outset used for t, whose position is `here`: the later candidate only where it is strictly nearer.
+pub fn choose(index: &[u64], s: Numbers, c: Catalogue, t: u64, here: Position) -> Used
+    requires { ⌜ Indexed (s .order) (s .page) (s .records) (length (now index)) ⌝ }
+    requires { ⌜ PositionIs (s .order) (s .page) (s .records) t (now index) (here .page .0) ⌝ }
+    requires { ⌜ s .files ≤ 16 ⌝ }
+    ensures { λ r. ⌜ NearestIs s c t (now (index .entry)) r ⌝ }
+{
+    let current = Held {
+        time: s.last,
+        place: Place::Current,
+        rows: s.live,
+    };
+    let early = catalogue::earlier(c, s.files as usize, t);
+    let late = catalogue::later(c, s.files as usize, t, current);
+    let before = position_of(index, s, early.time, t, here);
+    let after = position_of(index, s, late.time, t, here);
+    let back = apart(here, before);
+    let ahead = apart(here, after);
+    if ahead < back {
+        return Used {
+            chosen: Chosen {
+                outset: late,
+                side: Side::Later,
+                distance: ahead,
+            },
+            at: after,
+        };
+    }
+    Used {
+        chosen: Chosen {
+            outset: early,
+            side: Side::Earlier,
+            distance: back,
+        },
+        at: before,
+    }
+}
