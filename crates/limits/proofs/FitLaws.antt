@@ -1,7 +1,11 @@
 -- What is at most the capacity of a catalogue, and question 1 as facts. Assumes nothing.
-use Prim.Native.Nat.{ℕ, _+_, _*_, _/_, _≤_, min}
+use Prim.Native.Nat.{ℕ, _+_, _*_, _/_, _≤_, _<_, min}
+use mathlib.Core.Path.{_≡_}
+use mathlib.Core.Bool.{false}
 use native.Mathlib.Omega.{arith}
 use native.Mathlib.Nat.{le-div-iff-mul-le, mul-comm}
+use lib.Dec.{leb}
+use borrow.Author.Tests.{lt-leb}
 use Rattle.model.specs.declared.Numbers.{Numbers}
 use Rattle.model.specs.Pages.{indexNeed}
 use Rattle.model.specs.Memory.{capacity}
@@ -22,6 +26,17 @@ module _ (R entries areas n : ℕ) (h : n ≤ capacity R entries areas) where
   capacity-areas some =
       let g : n * (8 * R) ≤ areas = le-div-iff-mul-le {k = 8 * R} {x = n} {y = areas} (omega arith) .0 (omega (arith, within)) in
       rw (mul-comm (8 * R) n) g
+
+pub files-past : (R entries areas n : ℕ) → min 16 entries < n → leb n (capacity R entries areas) ≡ false
+unfolding capacity
+files-past R entries areas n past = lt-leb n (capacity R entries areas) (omega arith)
+
+-- and all three at once, by a product in place of the division
+pub within-capacity : (R entries areas n : ℕ) → 1 ≤ R → n ≤ 16 → n ≤ entries → 8 * R * n ≤ areas → n ≤ capacity R entries areas
+unfolding capacity
+within-capacity R entries areas n some few lent long =
+    let g : n ≤ areas / (8 * R) = le-div-iff-mul-le {k = 8 * R} {x = n} {y = areas} (omega arith) .1 (omega arith) in
+    omega arith
 
 -- the five lengths and the two counts
 pub fit-of : (s : Numbers) (log index table entries areas : ℕ) → InRange s → 24 + 24 * s .records ≤ log → indexNeed (s .order) (s .page) (s .records) ≤ index → 8 * s .limit ≤ table

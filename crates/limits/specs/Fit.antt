@@ -26,3 +26,17 @@ pub record Fit (s : Numbers) (log index table entries areas : ℕ) : Type 0 wher
   pub files-sixteen : s .files ≤ 16
   pub files-lent : s .files ≤ entries
   pub areas-long : 8 * s .limit * s .files ≤ areas
+
+-- ---- room in an index
+
+-- order, page size and number of records within their limits
+pub record Indexable (d N n : ℕ) : Type 0 where
+  pub order-low : 2 ≤ d
+  pub order-high : d ≤ 64
+  pub page-low : 2 ≤ N
+  pub page-high : N ≤ 64
+  pub records-few : n ≤ 65536
+
+-- the words of 65,536 nodes of order 64: no log takes as many
+abbrev pub wordsMost : ℕ
+wordsMost = 4128768
