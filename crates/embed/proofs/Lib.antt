@@ -1,4 +1,5 @@
 pub mod Operands
 pub mod Bodies
 pub mod Shells
+pub mod Appends
 pub mod Files

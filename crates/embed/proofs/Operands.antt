@@ -13,5 +13,6 @@ use types.Kit.{Given, Item, ‵, nth}
 use types.Run.{Opd, look, stop, from, load}
 
 module _ {M : Type 1} {𝓤 : URA M} {H : Heap 𝓤} {A : Atoms 𝓤} {K : Type 0} {W : Given 𝓤 H A} {Γ : List (Item 𝓤)} {E : Env 𝓤 H} where
-  pub held : K → {i : ℕ} {q : Share} {v : Val} → nth 𝓤 H A (i + i) Γ ≡ ‵ (fat q (spotOf 𝓤 H E i .0) (spotOf 𝓤 H E i .1) (spotOf 𝓤 H E i .2) v) → Opd K W Γ E (copy (place i [])) v
+  pub held : K → {i : ℕ} {q : Share} {v : Val} → nth 𝓤 H A (i + i) Γ ≡ ‵ (fat q (spotOf 𝓤 H E i .0) (spotOf 𝓤 H E i .1) (spotOf 𝓤 H E i .2) v) → Opd K
+      W Γ E (copy (place i [])) v
   held t {i} e = load t (from t (stop t)) (look t (i + i) e)

@@ -112,18 +112,21 @@ module _ {M : Type 1} {𝓤 : URA M} {H : Heap 𝓤} {A : Atoms 𝓤} {K : Type 
       (pass-all t ls (b .1) vs (fits .1) (held ++ Γ) g (by t (via 𝓤 _ (swap⊢ 𝓤 H A (cells 𝓤 H A ls (b .1) vs) held Γ) (k .prf))) .prf))
 
   -- the result's local is the first
-  enters : K → (C : Calls 𝓤 H) (Λ : Loops 𝓤 H) (f : Fn) {τ : Ty} {h : Home} {ls : List Local} → f .locals ≡ local τ h ∷ ls → (vs : List Val) → Fits ls vs
+  enters : K → (C : Calls 𝓤 H) (Λ : Loops 𝓤 H) (f : Fn) {τ : Ty} {h : Home} {ls : List Local} → f .locals ≡ local τ h ∷ ls → (vs : List Val) → Fits ls
+      vs
       → (Q : Val → SProp 𝓤) (Γ : List (Item 𝓤))
       → ((b : Blocks (local τ h ∷ ls)) → let E = envOf 𝓤 H A (local τ h ∷ ls) b in
       Seq K W (‵ (froom τ (b .0) 0) ∷ ‵ (fdies τ (b .0)) ∷ (cells 𝓤 H A ls (b .1) vs ++ Γ)) (runs C Λ E (f .body) (atRet E Q)))
       → Seq K W Γ (prop (WpFn 𝓤 H C Λ f vs Q))
   enters t C Λ f {τ} {h} {ls} e vs fits Q Γ k =
-      enter t C Λ f vs Q $ subst (λ (L : List Local). Seq K W Γ (allocs L (λ E. params′ E vs (runs C Λ E (f .body) (atRet E Q))))) (sym e) (alloc-all t (λ b.
+      enter t C Λ f vs Q $ subst (λ (L : List Local). Seq K W Γ (allocs L (λ E. params′ E vs (runs C Λ E (f .body) (atRet E Q))))) (sym e)
+      (alloc-all t (λ b.
       let first : List (Item 𝓤) = ‵ (froom τ (b .0) 0) ∷ ‵ (fdies τ (b .0)) ∷ [] in
       let E : Env 𝓤 H = envOf 𝓤 H A (local τ h ∷ ls) b in
       params1 t $ by t
       (via 𝓤 _ (swap⊢ 𝓤 H A first (rooms 𝓤 H A ls (b .1)) Γ)
-      (pass-all t ls (b .1) vs fits (first ++ Γ) (runs C Λ E (f .body) (atRet E Q)) (by t (via 𝓤 _ (swap⊢ 𝓤 H A (cells 𝓤 H A ls (b .1) vs) first Γ) (k b .prf))) .prf))))
+      (pass-all t ls (b .1) vs fits (first ++ Γ) (runs C Λ E (f .body) (atRet E Q))
+      (by t (via 𝓤 _ (swap⊢ 𝓤 H A (cells 𝓤 H A ls (b .1) vs) first Γ) (k b .prf))) .prf))))
 
 -- ---- from the walk to the contract
 
@@ -143,26 +146,30 @@ module _ {M : Type 1} (𝓤 : URA M) (H : Heap 𝓤) (A : Atoms 𝓤) (W : Given
   abbrev slots : Ls → List RattleType
   slots κs = typesAt (D .signature .params) κs
 
-  module _ (κs : Ls) (qs : Shares (D .signature .lifetimes)) (bounds : AllOutlive (D .signature .lifetimes) (D .signature .outlives) κs) (a : Args (D .signature) κs) (g : c κs a .ghost) (us : Vals (D .signature) κs) where
+  module _ (κs : Ls) (qs : Shares (D .signature .lifetimes)) (bounds : AllOutlive (D .signature .lifetimes) (D .signature .outlives) κs)
+      (a : Args (D .signature) κs) (g : c κs a .ghost) (us : Vals (D .signature) κs) where
     abbrev Goal′ : Val → SProp 𝓤
     Goal′ = walkOf 𝓤 H A D (all-left (D .signature .params) (D .kept)) c .post ((κs, qs, bounds, a, us), g)
 
     -- `ends-by` of ShellRules, for this function
     abbrev Ending : Type 2
     Ending = (Γ : List (Item 𝓤)) (v : Val) (r : Res (D .signature) κs) (ws : Lasts D κs a) → ent 𝓤 (emp 𝓤) (c κs a .ensures g r (atExit D κs a ws))
-        → (π : List ℕ) → only 𝓤 H A (rel [] π) Γ ≡ tokItems 𝓤 H A (D .signature .lifetimes) κs qs ++ (lastItems 𝓤 H A κs (D .signature .params) (D .kept) a ws ++ (‵ (typeAt (D .signature .result) κs .own r (v ∷ [])) ∷ []))
+        → (π : List ℕ) → only 𝓤 H A (rel [] π) Γ ≡ tokItems 𝓤 H A (D .signature .lifetimes) κs qs ++
+        (lastItems 𝓤 H A κs (D .signature .params) (D .kept) a ws ++ (‵ (typeAt (D .signature .result) κs .own r (v ∷ [])) ∷ []))
         → Seq (Go {0}) W Γ (prop (Goal′ v))
 
     -- the walk, from the body's start
     abbrev Walk : (τ : Ty) (h : Home) (ls : List Local) → Blocks (local τ h ∷ ls) → Type 2
     Walk τ h ls b =
         let E = envOf 𝓤 H A (local τ h ∷ ls) b in
-        Ending → Seq (Go {0}) W (‵ (froom τ (b .0) 0) ∷ ‵ (fdies τ (b .0)) ∷ (cells 𝓤 H A ls (b .1) (flat (slots κs) us) ++ (tokItems 𝓤 H A (D .signature .lifetimes) κs qs ++ ownItems 𝓤 H A (slots κs) a us)))
+        Ending → Seq (Go {0}) W (‵ (froom τ (b .0) 0) ∷ ‵ (fdies τ (b .0)) ∷
+        (cells 𝓤 H A ls (b .1) (flat (slots κs) us) ++ (tokItems 𝓤 H A (D .signature .lifetimes) κs qs ++ ownItems 𝓤 H A (slots κs) a us)))
         (runs (𝓣 .C) (𝓣 .Λ) E (f .body) (atRet E Goal′))
 
   pub shell : {τ : Ty} {h : Home} {ls : List Local} → f .locals ≡ local τ h ∷ ls → (laws : (κs : Ls) → Laws (slots κs))
       → ((κs : Ls) (a : Args (D .signature) κs) → let vs = flat (slots κs) (valued (slots κs) (laws κs) a) in Typed (mirs (slots κs)) vs → Fits ls vs)
-      → ((κs : Ls) (qs : Shares (D .signature .lifetimes)) (bounds : AllOutlive (D .signature .lifetimes) (D .signature .outlives) κs) → Curried (slots κs) (λ a.
+      → ((κs : Ls) (qs : Shares (D .signature .lifetimes)) (bounds : AllOutlive (D .signature .lifetimes) (D .signature .outlives) κs) → Curried
+      (slots κs) (λ a.
       let us = valued (slots κs) (laws κs) a in
       (g : c κs a .ghost) → Are (slots κs) (Ises (slots κs)) a us → (b : Blocks (local τ h ∷ ls)) → Walk κs qs bounds a g us τ h ls b))
       → Meets 𝓤 H A (D .signature) (WpFn 𝓤 H (𝓣 .C) (𝓣 .Λ) f) (closing 𝓤 H A D c)
@@ -170,6 +177,8 @@ module _ {M : Type 1} (𝓤 : URA M) (H : Heap 𝓤) (A : Atoms 𝓤) (W : Given
       shell-meets 𝓤 H A W 𝓣 f D c (λ κs. spells (slots κs) (laws κs)) (λ κs. tellss (slots κs) (laws κs)) (λ κs qs bounds a g are.
       let us = valued (slots κs) (laws κs) a in
       via 𝓤 _ (fst∗ 𝓤 _ (c κs a .requires g)) (via 𝓤 _ (entry-out 𝓤 H A (D .signature .lifetimes) κs qs (slots κs) a us)
-      (enters ! (𝓣 .C) (𝓣 .Λ) f e (flat (slots κs) us) (fit κs a (all-typed 𝓤 H A (slots κs) (lawfuls 𝓤 H A W (slots κs) (laws κs)) a us are)) _ _ (λ b.
-      uncurried (slots κs) (λ a. let us = valued (slots κs) (laws κs) a in (g : c κs a .ghost) → Are (slots κs) (Ises (slots κs)) a us → (b : Blocks (local τ h ∷ ls)) → Walk κs qs bounds a g us τ h ls b)
+      (enters ! (𝓣 .C) (𝓣 .Λ) f e (flat (slots κs) us) (fit κs a (all-typed 𝓤 H A (slots κs) (lawfuls 𝓤 H A W (slots κs) (laws κs)) a us are)) _ _
+      (λ b.
+      uncurried (slots κs) (λ a. let us = valued (slots κs) (laws κs) a in (g : c κs a .ghost) → Are (slots κs) (Ises (slots κs)) a us →
+      (b : Blocks (local τ h ∷ ls)) → Walk κs qs bounds a g us τ h ls b)
       (walk κs qs bounds) a g are b (λ Γ v r ws said π e. ends-by ! D c ((κs, qs, bounds, a, us), g) v r ws said π e)) .prf)))

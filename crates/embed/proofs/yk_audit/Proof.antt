@@ -11,7 +11,7 @@ use ghost.Atoms.{Atoms}
 use contract.Lifetimes.{Lfts}
 use contract.Monad.{Fun, factI}
 use contract.Running.{givenOf, tables, tablesOf}
-use types.Kit.{Given, _$_, !}
+use types.Kit.{Given, _$_, ! }
 use types.Run.{look, init, stop, from, and-then, no-more, land, returns, free0}
 use sound.WpLaws.{fmOf}
 use denote.Plain.{uint-lawful}
@@ -50,21 +50,30 @@ module _ {M : Type 1} (𝓤 : URA M) (H : Heap 𝓤) (A : Atoms 𝓤) (at-mem : 
   abbrev Inner : Contract 𝓤
   Inner = tripleOf 𝓤 H A inner.signature (inner.spec 𝓤 H A at-mem run)
 
-  module _ (W : Given 𝓤 H A) (𝓣 : Tables 𝓤 H) (known-first : Triple 𝓤 (𝓣 .C #entries·load) First) (known-inner : Triple 𝓤 (𝓣 .C #numbered·audit) Inner) where
+  module _ (W : Given 𝓤 H A) (𝓣 : Tables 𝓤 H) (known-first : Triple 𝓤 (𝓣 .C #entries·load) First)
+      (known-inner : Triple 𝓤 (𝓣 .C #numbered·audit) Inner) where
     meets : Meets 𝓤 H A f.signature (WpFn 𝓤 H (𝓣 .C) (𝓣 .Λ) code.function) (f.spec 𝓤 H A at-mem run)
     meets =
-        shell 𝓤 H A W 𝓣 code.function f.ended (f.clauses 𝓤 H A at-mem run) refl laws (λ κs xs fits. fits) (λ κs qs bounds s log index current entries areas g are blocks ends.
+        shell 𝓤 H A W 𝓣 code.function f.ended (f.clauses 𝓤 H A at-mem run) refl laws (λ κs xs fits. fits)
+        (λ κs qs bounds s log index current entries areas g are blocks ends.
         -- [the locals, _i at 2 × i; 16: the tokens; 21: what the parameters own]
-        calls-by ! (fmOf 𝓤 H (W .laws) 𝓣) first.ended (first.clauses 𝓤 H A at-mem run) known-first ((κs .1 .1 .1 .0, tt), (qs .1 .1 .1 .0, tt), tt, (entries, tt), (slice-vals entries, tt)) tt (id⊢ 𝓤 _)
+        calls-by ! (fmOf 𝓤 H (W .laws) 𝓣) first.ended (first.clauses 𝓤 H A at-mem run) known-first
+        ((κs .1 .1 .1 .0, tt), (qs .1 .1 .1 .0, tt), tt, (entries, tt), (slice-vals entries, tt)) tt (id⊢ 𝓤 _)
         _ (λ r₁ ws₁. id⊢ 𝓤 _)
         (19 ∷ 25 ∷ []) refl (and-then ! (here ! 10 refl) (no-more !)) (λ u₁ r₁ ws₁ is₁ e₁.
         land ! (from ! (stop !)) (init ! 14 refl (LL.lawful D.the-type D′.the-laws 𝓤 H A W .typed r₁ _ is₁ .0)) $
-        -- [the locals; 16: the token of log; 17: the token of index; 18: the token of current; 19: the token of areas; 20: s; 21: log; 22: index; 23: current; 24: areas; 25: the token of entries; 26: the first result]
-        calls-by ! (fmOf 𝓤 H (W .laws) 𝓣) inner.ended (inner.clauses 𝓤 H A at-mem run) known-inner ((κs .0, (κs .1 .0, (κs .1 .1 .0, (κs .1 .1 .1 .1 .0, tt)))), (qs .0, (qs .1 .0, (qs .1 .1 .0, (qs .1 .1 .1 .1 .0, tt)))), tt, (s, (log, (index, (current, (r₁, (areas, tt)))))), (numbers .vals s, (slice-vals log, (slice-vals index, (slice-vals current, (u₁ ∷ [], (slice-vals areas, tt))))))) tt (id⊢ 𝓤 _)
+        -- [the locals; 16: the token of log; 17: the token of index; 18: the token of current; 19: the token of areas; 20: s; 21: log; 22: index; 23:
+        -- current; 24: areas; 25: the token of entries; 26: the first result]
+        calls-by ! (fmOf 𝓤 H (W .laws) 𝓣) inner.ended (inner.clauses 𝓤 H A at-mem run) known-inner
+        ((κs .0, (κs .1 .0, (κs .1 .1 .0, (κs .1 .1 .1 .1 .0, tt)))), (qs .0, (qs .1 .0, (qs .1 .1 .0, (qs .1 .1 .1 .1 .0, tt)))), tt, (s, (log, (index, (current, (r₁, (areas, tt)))))), (numbers .vals s, (slice-vals log, (slice-vals index, (slice-vals current, (u₁ ∷ [], (slice-vals areas, tt)))))))
+        tt (id⊢ 𝓤 _)
         _ (λ r₂ ws₂. id⊢ 𝓤 _)
-        (16 ∷ 17 ∷ 18 ∷ 19 ∷ 20 ∷ 21 ∷ 22 ∷ 23 ∷ 26 ∷ 24 ∷ []) refl (and-then ! (here ! 2 refl) (and-then ! (here ! 4 refl) (and-then ! (here ! 6 refl) (and-then ! (here ! 8 refl) (and-then ! (here ! 14 refl) (and-then ! (here ! 12 refl) (no-more !))))))) (λ u₂ r₂ ws₂ is₂ e₂.
+        (16 ∷ 17 ∷ 18 ∷ 19 ∷ 20 ∷ 21 ∷ 22 ∷ 23 ∷ 26 ∷ 24 ∷ []) refl (and-then ! (here ! 2 refl)
+        (and-then ! (here ! 4 refl) (and-then ! (here ! 6 refl)
+        (and-then ! (here ! 8 refl) (and-then ! (here ! 14 refl) (and-then ! (here ! 12 refl) (no-more !))))))) (λ u₂ r₂ ws₂ is₂ e₂.
         land ! (from ! (stop !)) (init ! 0 refl (uint-lawful 𝓤 H A W w8 .typed r₂ _ is₂ .0)) $
-        -- [the locals; 16: the token of entries; 17: the token of log; 18: the token of index; 19: the token of current; 20: the token of areas; 21: the second result]
+        -- [the locals; 16: the token of entries; 17: the token of log; 18: the token of index; 19: the token of current; 20: the token of areas; 21:
+        -- the second result]
         returns ! (look ! 0 refl) $ freed ! $ freed ! $ freed ! $ freed ! $ freed ! $ freed ! $ freed ! $ freed ! $ free0 ! $
         ends _ u₂ r₂ (tt, (tt, (tt, (tt, (tt, (tt, tt))))))
         (factI 𝓤 _ (emp 𝓤) (e₂ (entries .now) e₁)) (1 ∷ 2 ∷ 3 ∷ 0 ∷ 4 ∷ 5 ∷ []) refl)))
@@ -76,4 +85,5 @@ yk-audit-spec 𝓤 H 𝓜 𝓖 𝓡 =
     (tables 𝓤 H 𝓜 𝓡 code.env .C) (tables 𝓤 H 𝓜 𝓡 code.env .Λ) #embed·yk-audit code.function (code.unfolded 𝓤 H 𝓜 𝓡)
     (meets 𝓤 H (𝓖 .A) (𝓜 .mem) (𝓡 .run) (givenOf 𝓤 H 𝓜 𝓖) (tablesOf 𝓤 H 𝓜 (tables 𝓤 H 𝓜 𝓡 code.env))
     (cited 𝓤 H (First 𝓤 H (𝓖 .A) (𝓜 .mem) (𝓡 .run)) 𝓜 𝓡 code.env #entries·load first-def.routine code.calls-entries·load (first-thm.met 𝓤 H 𝓜 𝓖 𝓡))
-    (cited 𝓤 H (Inner 𝓤 H (𝓖 .A) (𝓜 .mem) (𝓡 .run)) 𝓜 𝓡 code.env #numbered·audit inner-def.routine code.calls-numbered·audit (inner-thm.met 𝓤 H 𝓜 𝓖 𝓡)))
+    (cited 𝓤 H (Inner 𝓤 H (𝓖 .A) (𝓜 .mem) (𝓡 .run)) 𝓜 𝓡 code.env #numbered·audit inner-def.routine code.calls-numbered·audit
+    (inner-thm.met 𝓤 H 𝓜 𝓖 𝓡)))

@@ -75,47 +75,74 @@ module _ {M : Type 1} (𝓤 : URA M) (H : Heap 𝓤) (A : Atoms 𝓤) (at-mem : 
   abbrev Answer : Contract 𝓤
   Answer = tripleOf 𝓤 H A answer.signature (answer.spec 𝓤 H A at-mem run)
 
-  module _ (W : Given 𝓤 H A) (𝓣 : Tables 𝓤 H) (known-count : Triple 𝓤 (𝓣 .C #entries·count) Count) (known-inner : Triple 𝓤 (𝓣 .C #numbered·open) Inner) (known-clear : Triple 𝓤 (𝓣 .C #entries·clear) Clear) (known-answer : Triple 𝓤 (𝓣 .C #numbered·answer·begun-change) Answer) where
+  module _ (W : Given 𝓤 H A) (𝓣 : Tables 𝓤 H) (known-count : Triple 𝓤 (𝓣 .C #entries·count) Count)
+      (known-inner : Triple 𝓤 (𝓣 .C #numbered·open) Inner) (known-clear : Triple 𝓤 (𝓣 .C #entries·clear) Clear)
+      (known-answer : Triple 𝓤 (𝓣 .C #numbered·answer·begun-change) Answer) where
     meets : Meets 𝓤 H A f.signature (WpFn 𝓤 H (𝓣 .C) (𝓣 .Λ) code.function) (f.spec 𝓤 H A at-mem run)
     meets =
-        shell 𝓤 H A W 𝓣 code.function f.ended (f.clauses 𝓤 H A at-mem run) refl laws (λ κs xs fits. fits) (λ κs qs bounds log index current entries areas g are blocks ends.
+        shell 𝓤 H A W 𝓣 code.function f.ended (f.clauses 𝓤 H A at-mem run) refl laws (λ κs xs fits. fits)
+        (λ κs qs bounds log index current entries areas g are blocks ends.
         -- [the locals, _i at 2 × i; 36: the tokens; 41: what the parameters own]
         assigns ! (addr ! (from ! (fld ! refl (hop ! (look-in ! 8 (sub ! 0 refl (whole !))) (stop !))))) (from ! (stop !)) (init ! 16 refl (tt, tt)) $
-        assigns ! (agg ! (and-then ! (held ! refl) (and-then ! (load ! (from ! (fld ! refl (stop !))) (look-in ! 8 (sub ! 1 refl (whole !)))) (no-more !)))) (from ! (stop !)) (init ! 18 refl (tt, (tt, (record { fits = are .1 .1 .1 .0 .0 .1 .0 }, tt)))) $
+        assigns ! (agg ! (and-then ! (held ! refl) (and-then ! (load ! (from ! (fld ! refl (stop !))) (look-in ! 8 (sub ! 1 refl (whole !))))
+        (no-more !)))) (from ! (stop !)) (init ! 18 refl (tt, (tt, (record { fits = are .1 .1 .1 .0 .0 .1 .0 }, tt)))) $
         move ! (39 ∷ 44 ∷ []) $ lends-out T.the-row entries (named 3) (named 0) (κs .1 .1 .1 .0) (qs .1 .1 .1 .0) ! tt (λ ν δ.
-        calls-by ! (fmOf 𝓤 H (W .laws) 𝓣) count.ended (count.clauses 𝓤 H A at-mem run) known-count ((ν ∷ [], tt), (fullShare, tt), tt, (again T.the-row entries δ, tt), (slice-vals entries, tt)) tt (id⊢ 𝓤 _)
+        calls-by ! (fmOf 𝓤 H (W .laws) 𝓣) count.ended (count.clauses 𝓤 H A at-mem run) known-count
+        ((ν ∷ [], tt), (fullShare, tt), tt, (again T.the-row entries δ, tt), (slice-vals entries, tt)) tt (id⊢ 𝓤 _)
         _ (λ r₁ ws₁. id⊢ 𝓤 _)
         (44 ∷ 45 ∷ []) refl (and-then ! (held ! refl) (no-more !)) (λ u₁ r₁ ws₁ is₁ e₁.
         land ! (from ! (stop !)) (init ! 12 refl (uint-lawful 𝓤 H A W w64 .typed r₁ _ is₁ .0)) $
         move ! (45 ∷ 44 ∷ []) $ comes-home T.the-row entries (named 3) (named 0) (κs .1 .1 .1 .0) (qs .1 .1 .1 .0) ! tt (are .1 .1 .1 .0 .0 .1) ν $
-        -- [the locals; 36: the token of log; 37: the token of index; 38: the token of current; 39: the token of areas; 40: log; 41: index; 42: current; 43: areas; 44: the first result; 45: the token of entries; 46: entries]
+        -- [the locals; 36: the token of log; 37: the token of index; 38: the token of current; 39: the token of areas; 40: log; 41: index; 42:
+        -- current; 43: areas; 44: the first result; 45: the token of entries; 46: entries]
         assigns ! (addr ! (from ! (fld ! refl (hop ! (look-in ! 4 (sub ! 0 refl (whole !))) (stop !))))) (from ! (stop !)) (init ! 20 refl (tt, tt)) $
-        assigns ! (agg ! (and-then ! (held ! refl) (and-then ! (load ! (from ! (fld ! refl (stop !))) (look-in ! 4 (sub ! 1 refl (whole !)))) (no-more !)))) (from ! (stop !)) (init ! 22 refl (tt, (tt, (record { fits = are .1 .0 .0 .1 .0 }, tt)))) $
+        assigns ! (agg ! (and-then ! (held ! refl) (and-then ! (load ! (from ! (fld ! refl (stop !))) (look-in ! 4 (sub ! 1 refl (whole !))))
+        (no-more !)))) (from ! (stop !)) (init ! 22 refl (tt, (tt, (record { fits = are .1 .0 .0 .1 .0 }, tt)))) $
         assigns ! (addr ! (from ! (fld ! refl (hop ! (look-in ! 6 (sub ! 0 refl (whole !))) (stop !))))) (from ! (stop !)) (init ! 24 refl (tt, tt)) $
-        assigns ! (agg ! (and-then ! (held ! refl) (and-then ! (load ! (from ! (fld ! refl (stop !))) (look-in ! 6 (sub ! 1 refl (whole !)))) (no-more !)))) (from ! (stop !)) (init ! 26 refl (tt, (tt, (record { fits = are .1 .1 .0 .0 .1 .0 }, tt)))) $
-        assigns ! (of-opd ! (load ! (from ! (fld ! refl (stop !))) (look-in ! 10 (sub ! 1 refl (whole !))))) (from ! (stop !)) (init ! 28 refl (tt, record { fits = are .1 .1 .1 .1 .0 .0 .1 .0 })) $
-        adds ! usize (length (areas .now)) (vint w64 (length (areas .now)) ∷ []) (uint-makes 𝓤 H A W w64 (length (areas .now)) _ (refl, are .1 .1 .1 .1 .0 .0 .1 .0)) $
-        calls-by ! (fmOf 𝓤 H (W .laws) 𝓣) inner.ended (inner.clauses 𝓤 H A at-mem run) known-inner ((κs .0, (κs .1 .0, (κs .1 .1 .0, tt))), (qs .0, (qs .1 .0, (qs .1 .1 .0, tt))), tt, (log, (index, (current, (r₁, ((length (areas .now)), tt))))), (slice-vals log, (slice-vals index, (slice-vals current, (u₁ ∷ [], (vint w64 (length (areas .now)) ∷ [], tt)))))) tt (id⊢ 𝓤 _)
+        assigns ! (agg ! (and-then ! (held ! refl) (and-then ! (load ! (from ! (fld ! refl (stop !))) (look-in ! 6 (sub ! 1 refl (whole !))))
+        (no-more !)))) (from ! (stop !)) (init ! 26 refl (tt, (tt, (record { fits = are .1 .1 .0 .0 .1 .0 }, tt)))) $
+        assigns ! (of-opd ! (load ! (from ! (fld ! refl (stop !))) (look-in ! 10 (sub ! 1 refl (whole !))))) (from ! (stop !))
+        (init ! 28 refl (tt, record { fits = are .1 .1 .1 .1 .0 .0 .1 .0 })) $
+        adds ! usize (length (areas .now)) (vint w64 (length (areas .now)) ∷ [])
+        (uint-makes 𝓤 H A W w64 (length (areas .now)) _ (refl, are .1 .1 .1 .1 .0 .0 .1 .0)) $
+        calls-by ! (fmOf 𝓤 H (W .laws) 𝓣) inner.ended (inner.clauses 𝓤 H A at-mem run) known-inner
+        ((κs .0, (κs .1 .0, (κs .1 .1 .0, tt))), (qs .0, (qs .1 .0, (qs .1 .1 .0, tt))), tt, (log, (index, (current, (r₁, ((length (areas .now)), tt))))), (slice-vals log, (slice-vals index, (slice-vals current, (u₁ ∷ [], (vint w64 (length (areas .now)) ∷ [], tt))))))
+        tt (id⊢ 𝓤 _)
         _ (λ r₂ ws₂. both-said 𝓤 _ _)
-        (36 ∷ 37 ∷ 38 ∷ 40 ∷ 41 ∷ 42 ∷ 44 ∷ 47 ∷ []) refl (and-then ! (held ! refl) (and-then ! (held ! refl) (and-then ! (held ! refl) (and-then ! (held ! refl) (and-then ! (held ! refl) (no-more !)))))) (λ u₂ r₂ ws₂ is₂ e₂.
+        (36 ∷ 37 ∷ 38 ∷ 40 ∷ 41 ∷ 42 ∷ 44 ∷ 47 ∷ []) refl (and-then ! (held ! refl)
+        (and-then ! (held ! refl) (and-then ! (held ! refl) (and-then ! (held ! refl) (and-then ! (held ! refl) (no-more !)))))) (λ u₂ r₂ ws₂ is₂ e₂.
         land ! (from ! (stop !)) (init ! 14 refl (LL.lawful R.the-type R′.the-laws 𝓤 H A W .typed r₂ _ is₂ .0)) $
-        rewrite ! 14 (λ (v : Val). ‵ (fat fullShare R′.mir (blocks .1 .1 .1 .1 .1 .1 .1 .0) 0 v)) (ap only (LL.tells R.the-type R′.the-laws r₂ (u₂ ∷ []) is₂)) refl $
-        -- [the locals; 36: the token of areas; 37: areas; 38: the token of entries; 39: entries; 40: the token of log; 41: the token of index; 42: the token of current; 43: the last list of index; 44: the last list of current; 45: the second result]
+        rewrite ! 14 (λ (v : Val). ‵ (fat fullShare R′.mir (blocks .1 .1 .1 .1 .1 .1 .1 .0) 0 v))
+        (ap only (LL.tells R.the-type R′.the-laws r₂ (u₂ ∷ []) is₂)) refl $
+        -- [the locals; 36: the token of areas; 37: areas; 38: the token of entries; 39: entries; 40: the token of log; 41: the token of index; 42:
+        -- the token of current; 43: the last list of index; 44: the last list of current; 45: the second result]
         assigns ! (addr ! (from ! (fld ! refl (hop ! (look-in ! 8 (sub ! 0 refl (whole !))) (stop !))))) (from ! (stop !)) (init ! 32 refl (tt, tt)) $
-        assigns ! (agg ! (and-then ! (held ! refl) (and-then ! (load ! (from ! (fld ! refl (stop !))) (look-in ! 8 (sub ! 1 refl (whole !)))) (no-more !)))) (from ! (stop !)) (init ! 34 refl (tt, (tt, (record { fits = are .1 .1 .1 .0 .0 .1 .0 }, tt)))) $
-        adds ! usize (r₂ .clears) (vint w64 (r₂ .clears) ∷ []) (uint-makes 𝓤 H A W w64 (r₂ .clears) _ (refl, LL.owed R.the-type R′.the-laws r₂ _ is₂ .1 .0 .1)) $
-        calls-by ! (fmOf 𝓤 H (W .laws) 𝓣) clear.ended (clear.clauses 𝓤 H A at-mem run) known-clear ((κs .1 .1 .1 .0, tt), (qs .1 .1 .1 .0, tt), tt, (entries, ((r₂ .clears), tt)), (slice-vals entries, (vint w64 (r₂ .clears) ∷ [], tt))) tt (factI 𝓤 _ (emp 𝓤) (subst (λ (k : ℕ). r₂ .clears ≤ k) e₁ (e₂ .0)))
+        assigns ! (agg ! (and-then ! (held ! refl) (and-then ! (load ! (from ! (fld ! refl (stop !))) (look-in ! 8 (sub ! 1 refl (whole !))))
+        (no-more !)))) (from ! (stop !)) (init ! 34 refl (tt, (tt, (record { fits = are .1 .1 .1 .0 .0 .1 .0 }, tt)))) $
+        adds ! usize (r₂ .clears) (vint w64 (r₂ .clears) ∷ []) (uint-makes 𝓤 H A W w64 (r₂ .clears) _
+        (refl, LL.owed R.the-type R′.the-laws r₂ _ is₂ .1 .0 .1)) $
+        calls-by ! (fmOf 𝓤 H (W .laws) 𝓣) clear.ended (clear.clauses 𝓤 H A at-mem run) known-clear
+        ((κs .1 .1 .1 .0, tt), (qs .1 .1 .1 .0, tt), tt, (entries, ((r₂ .clears), tt)), (slice-vals entries, (vint w64 (r₂ .clears) ∷ [], tt))) tt
+        (factI 𝓤 _ (emp 𝓤) (subst (λ (k : ℕ). r₂ .clears ≤ k) e₁ (e₂ .0)))
         _ (λ r₃ ws₃. id⊢ 𝓤 _)
-        (38 ∷ 39 ∷ 46 ∷ []) refl (and-then ! (held ! refl) (and-then ! (load ! (from ! (fld ! refl (stop !))) (look-in ! 14 (sub ! 1 refl (whole !)))) (no-more !))) (λ u₃ r₃ ws₃ is₃ e₃.
+        (38 ∷ 39 ∷ 46 ∷ []) refl (and-then ! (held ! refl)
+        (and-then ! (load ! (from ! (fld ! refl (stop !))) (look-in ! 14 (sub ! 1 refl (whole !)))) (no-more !))) (λ u₃ r₃ ws₃ is₃ e₃.
         land ! (from ! (stop !)) (init ! 30 refl (nothing-lawful 𝓤 H A W .typed r₃ _ is₃ .0)) $
-        -- [the locals; 36: the token of areas; 37: areas; 38: the token of log; 39: the token of index; 40: the token of current; 41: the last list of index; 42: the last list of current; 43: the second result; 44: the token of entries; 45: the last list of entries; 46: the third result]
-        adds ! R.the-row r₂ (only (LL.vals R.the-type R′.the-laws r₂) ∷ []) (LL.makes R.the-type R′.the-plain 𝓤 H A r₂ _ (LL.owes R.the-type R′.the-laws r₂ (LL.owed R.the-type R′.the-laws r₂ _ is₂))) $
-        calls-by ! (fmOf 𝓤 H (W .laws) 𝓣) answer.ended (answer.clauses 𝓤 H A at-mem run) known-answer (tt, tt, tt, (r₂, tt), (only (LL.vals R.the-type R′.the-laws r₂) ∷ [], tt)) tt (id⊢ 𝓤 _)
+        -- [the locals; 36: the token of areas; 37: areas; 38: the token of log; 39: the token of index; 40: the token of current; 41: the last list
+        -- of index; 42: the last list of current; 43: the second result; 44: the token of entries; 45: the last list of entries; 46: the third
+        -- result]
+        adds ! R.the-row r₂ (only (LL.vals R.the-type R′.the-laws r₂) ∷ [])
+        (LL.makes R.the-type R′.the-plain 𝓤 H A r₂ _ (LL.owes R.the-type R′.the-laws r₂ (LL.owed R.the-type R′.the-laws r₂ _ is₂))) $
+        calls-by ! (fmOf 𝓤 H (W .laws) 𝓣) answer.ended (answer.clauses 𝓤 H A at-mem run) known-answer
+        (tt, tt, tt, (r₂, tt), (only (LL.vals R.the-type R′.the-laws r₂) ∷ [], tt)) tt (id⊢ 𝓤 _)
         _ (λ r₄ ws₄. id⊢ 𝓤 _)
         (47 ∷ []) refl (and-then ! (held ! refl) (no-more !)) (λ u₄ r₄ ws₄ is₄ e₄.
         land ! (from ! (stop !)) (init ! 0 refl (LL.lawful Y.the-type Y′.the-laws 𝓤 H A W .typed r₄ _ is₄ .0)) $
-        -- [the locals; 36: the token of areas; 37: areas; 38: the token of log; 39: the token of index; 40: the token of current; 41: the last list of index; 42: the last list of current; 43: the second result; 44: the token of entries; 45: the last list of entries; 46: the third result; 47: the fourth result]
-        returns ! (look ! 0 refl) $ freed ! $ freed ! $ freed ! $ freed ! $ freed ! $ freed ! $ freed ! $ freed ! $ freed ! $ freed ! $ freed ! $ freed ! $ freed ! $ freed ! $ freed ! $ freed ! $ freed ! $ freed ! $ free0 ! $
+        -- [the locals; 36: the token of areas; 37: areas; 38: the token of log; 39: the token of index; 40: the token of current; 41: the last list
+        -- of index; 42: the last list of current; 43: the second result; 44: the token of entries; 45: the last list of entries; 46: the third
+        -- result; 47: the fourth result]
+        returns ! (look ! 0 refl) $ freed ! $ freed ! $ freed ! $ freed ! $ freed ! $ freed ! $ freed ! $ freed ! $ freed ! $ freed ! $ freed ! $
+        freed ! $ freed ! $ freed ! $ freed ! $ freed ! $ freed ! $ freed ! $ free0 ! $
         ends _ u₄ r₄ (tt, (ws₂ .1 .0, (ws₂ .1 .1 .0, (ws₃ .0, (tt, tt)))))
         (factI 𝓤 _ (emp 𝓤) (rw (e₄, e₃) (e₂ .1 (areas .now) (entries .now) (sym e₁) refl))) (2 ∷ 3 ∷ 4 ∷ 8 ∷ 0 ∷ 5 ∷ 6 ∷ 9 ∷ 11 ∷ []) refl))))))
 
@@ -128,4 +155,5 @@ yk-open-spec 𝓤 H 𝓜 𝓖 𝓡 =
     (cited 𝓤 H (Count 𝓤 H (𝓖 .A) (𝓜 .mem) (𝓡 .run)) 𝓜 𝓡 code.env #entries·count count-def.routine code.calls-entries·count (count-thm.met 𝓤 H 𝓜 𝓖 𝓡))
     (cited 𝓤 H (Inner 𝓤 H (𝓖 .A) (𝓜 .mem) (𝓡 .run)) 𝓜 𝓡 code.env #numbered·open inner-def.routine code.calls-numbered·open (inner-thm.met 𝓤 H 𝓜 𝓖 𝓡))
     (cited 𝓤 H (Clear 𝓤 H (𝓖 .A) (𝓜 .mem) (𝓡 .run)) 𝓜 𝓡 code.env #entries·clear clear-def.routine code.calls-entries·clear (clear-thm.met 𝓤 H 𝓜 𝓖 𝓡))
-    (cited 𝓤 H (Answer 𝓤 H (𝓖 .A) (𝓜 .mem) (𝓡 .run)) 𝓜 𝓡 code.env #numbered·answer·begun-change answer-def.routine code.calls-numbered·answer·begun-change (answer-thm.met 𝓤 H 𝓜 𝓖 𝓡)))
+    (cited 𝓤 H (Answer 𝓤 H (𝓖 .A) (𝓜 .mem) (𝓡 .run)) 𝓜 𝓡 code.env #numbered·answer·begun-change answer-def.routine
+    code.calls-numbered·answer·begun-change (answer-thm.met 𝓤 H 𝓜 𝓖 𝓡)))

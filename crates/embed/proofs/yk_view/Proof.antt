@@ -12,7 +12,7 @@ use ghost.Atoms.{Atoms}
 use contract.Lifetimes.{Lfts}
 use contract.Monad.{Fun, factI}
 use contract.Running.{givenOf, tables, tablesOf}
-use types.Kit.{Given, _$_, !}
+use types.Kit.{Given, _$_, ! }
 use types.Run.{look, init, stop, from, and-then, no-more, land, returns, free0}
 use sound.WpLaws.{fmOf}
 use denote.Builtin.{u64, u8}
@@ -52,21 +52,31 @@ module _ {M : Type 1} (𝓤 : URA M) (H : Heap 𝓤) (A : Atoms 𝓤) (at-mem : 
   abbrev Inner : Contract 𝓤
   Inner = tripleOf 𝓤 H A inner.signature (inner.spec 𝓤 H A at-mem run)
 
-  module _ (W : Given 𝓤 H A) (𝓣 : Tables 𝓤 H) (known-first : Triple 𝓤 (𝓣 .C #entries·load) First) (known-inner : Triple 𝓤 (𝓣 .C #numbered·view) Inner) where
+  module _ (W : Given 𝓤 H A) (𝓣 : Tables 𝓤 H) (known-first : Triple 𝓤 (𝓣 .C #entries·load) First)
+      (known-inner : Triple 𝓤 (𝓣 .C #numbered·view) Inner) where
     meets : Meets 𝓤 H A f.signature (WpFn 𝓤 H (𝓣 .C) (𝓣 .Λ) code.function) (f.spec 𝓤 H A at-mem run)
     meets =
-        shell 𝓤 H A W 𝓣 code.function f.ended (f.clauses 𝓤 H A at-mem run) refl laws (λ κs xs fits. fits) (λ κs qs bounds s log index current entries areas t g are blocks ends.
+        shell 𝓤 H A W 𝓣 code.function f.ended (f.clauses 𝓤 H A at-mem run) refl laws (λ κs xs fits. fits)
+        (λ κs qs bounds s log index current entries areas t g are blocks ends.
         -- [the locals, _i at 2 × i; 18: the tokens; 23: what the parameters own]
-        calls-by ! (fmOf 𝓤 H (W .laws) 𝓣) first.ended (first.clauses 𝓤 H A at-mem run) known-first ((κs .1 .1 .1 .0, tt), (qs .1 .1 .1 .0, tt), tt, (entries, tt), (slice-vals entries, tt)) tt (id⊢ 𝓤 _)
+        calls-by ! (fmOf 𝓤 H (W .laws) 𝓣) first.ended (first.clauses 𝓤 H A at-mem run) known-first
+        ((κs .1 .1 .1 .0, tt), (qs .1 .1 .1 .0, tt), tt, (entries, tt), (slice-vals entries, tt)) tt (id⊢ 𝓤 _)
         _ (λ r₁ ws₁. id⊢ 𝓤 _)
         (21 ∷ 27 ∷ []) refl (and-then ! (here ! 10 refl) (no-more !)) (λ u₁ r₁ ws₁ is₁ e₁.
         land ! (from ! (stop !)) (init ! 16 refl (LL.lawful D.the-type D′.the-laws 𝓤 H A W .typed r₁ _ is₁ .0)) $
-        -- [the locals; 18: the token of log; 19: the token of index; 20: the token of current; 21: the token of areas; 22: s; 23: log; 24: index; 25: current; 26: areas; 27: t; 28: the token of entries; 29: the first result]
-        calls-by ! (fmOf 𝓤 H (W .laws) 𝓣) inner.ended (inner.clauses 𝓤 H A at-mem run) known-inner ((κs .0, (κs .1 .0, (κs .1 .1 .0, (κs .1 .1 .1 .1 .0, tt)))), (qs .0, (qs .1 .0, (qs .1 .1 .0, (qs .1 .1 .1 .1 .0, tt)))), tt, (s, (log, (index, (current, (r₁, (areas, (t, tt))))))), (numbers .vals s, (slice-vals log, (slice-vals index, (slice-vals current, (u₁ ∷ [], (slice-vals areas, (vint w64 t ∷ [], tt)))))))) tt (id⊢ 𝓤 _)
+        -- [the locals; 18: the token of log; 19: the token of index; 20: the token of current; 21: the token of areas; 22: s; 23: log; 24: index; 25:
+        -- current; 26: areas; 27: t; 28: the token of entries; 29: the first result]
+        calls-by ! (fmOf 𝓤 H (W .laws) 𝓣) inner.ended (inner.clauses 𝓤 H A at-mem run) known-inner
+        ((κs .0, (κs .1 .0, (κs .1 .1 .0, (κs .1 .1 .1 .1 .0, tt)))), (qs .0, (qs .1 .0, (qs .1 .1 .0, (qs .1 .1 .1 .1 .0, tt)))), tt, (s, (log, (index, (current, (r₁, (areas, (t, tt))))))), (numbers .vals s, (slice-vals log, (slice-vals index, (slice-vals current, (u₁ ∷ [], (slice-vals areas, (vint w64 t ∷ [], tt))))))))
+        tt (id⊢ 𝓤 _)
         _ (λ r₂ ws₂. id⊢ 𝓤 _)
-        (18 ∷ 19 ∷ 20 ∷ 21 ∷ 22 ∷ 23 ∷ 24 ∷ 25 ∷ 29 ∷ 26 ∷ 27 ∷ []) refl (and-then ! (here ! 2 refl) (and-then ! (here ! 4 refl) (and-then ! (here ! 6 refl) (and-then ! (here ! 8 refl) (and-then ! (here ! 16 refl) (and-then ! (here ! 12 refl) (and-then ! (here ! 14 refl) (no-more !)))))))) (λ u₂ r₂ ws₂ is₂ e₂.
+        (18 ∷ 19 ∷ 20 ∷ 21 ∷ 22 ∷ 23 ∷ 24 ∷ 25 ∷ 29 ∷ 26 ∷ 27 ∷ []) refl
+        (and-then ! (here ! 2 refl) (and-then ! (here ! 4 refl)
+        (and-then ! (here ! 6 refl) (and-then ! (here ! 8 refl)
+        (and-then ! (here ! 16 refl) (and-then ! (here ! 12 refl) (and-then ! (here ! 14 refl) (no-more !)))))))) (λ u₂ r₂ ws₂ is₂ e₂.
         land ! (from ! (stop !)) (init ! 0 refl (LL.lawful R.the-type R′.the-laws 𝓤 H A W .typed r₂ _ is₂ .0)) $
-        -- [the locals; 18: the token of entries; 19: the token of log; 20: the token of index; 21: the token of current; 22: the token of areas; 23: the second result]
+        -- [the locals; 18: the token of entries; 19: the token of log; 20: the token of index; 21: the token of current; 22: the token of areas; 23:
+        -- the second result]
         returns ! (look ! 0 refl) $ freed ! $ freed ! $ freed ! $ freed ! $ freed ! $ freed ! $ freed ! $ freed ! $ freed ! $ free0 ! $
         ends _ u₂ r₂ (tt, (tt, (tt, (tt, (tt, (tt, (tt, tt)))))))
         (factI 𝓤 _ (emp 𝓤) (e₂ (entries .now) e₁)) (1 ∷ 2 ∷ 3 ∷ 0 ∷ 4 ∷ 5 ∷ []) refl)))
