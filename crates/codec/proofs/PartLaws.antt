@@ -147,6 +147,12 @@ module _ {A : Type 0} where
       (ap (drop n) (sym (take-append-drop k d)) ∙ drop-append-le n (take k d) (drop k d) (rw (length-part a k xs h) g)) in
       rw (e, take-take b k d (omega arith), take-add a b xs, tail) (simp append-assoc)
 
+  -- a part that runs to the end, `&mut xs[a..]`, of which the callee wrote the front
+  pub put-front : (a : ℕ) (xs zs : List A) {ys : List A} → a + length zs ≤ length xs → ys ≡ put (part a (length xs - a) xs) 0 zs
+      → putMid a (length xs - a) xs ys ≡ put xs a zs
+  put-front a xs zs {ys} h e =
+      put-within a (length xs - a) xs 0 zs (omega arith) (omega arith) e ∙ ap (λ (n : ℕ). put xs n zs) (add-zero a)
+
 -- a part that was lent, `&mut xs[a..e]`, and came back filled with zeros
 pub put-zeros : (a e : ℕ) (xs : List ℕ) {ys : List ℕ} → a ≤ e → e ≤ length xs → ys ≡ zeros (length (part a (e - a) xs)) → putMid a (e - a) xs ys ≡ put xs a (zeros (e - a))
 put-zeros a e xs h g q =
