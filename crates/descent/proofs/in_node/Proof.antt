@@ -9,7 +9,7 @@ returns : tie.Need-returns
 returns c = no-node (c .before .before .pre) (omega arith)
 
 words-used-requires : tie.Need-words-used-requires
-words-used-requires c κs = search needs
+words-used-requires c κs = omega arith
 
 add-t11 : tie.Need-add-t11
 add-t11 c = omega (arith, c .before .before .before .before .pre .small (omega arith))
