@@ -38,7 +38,9 @@
  * Count files  No call needs one. Entries and areas may have length 0: then keep is refused by 15, and all
  *              else works.
  * Memory       yk_lengths_for answers what to lend for so many records and count files. With as much, no call
- *              is refused for want of memory until there are more of them; with less of any, some call is.
+ *              is refused for want of memory until there are more of them. It is the least: with less of a
+ *              region, the call that needs it is refused, be it the opening of so many records, the last
+ *              append, the last keep or a net change.
  * At 11        An append may need two nodes, an inner one and a leaf.
  * Threads      The calls hold no state. Any number of stores may be used from any number of threads, one
  *              call at a time for each store.
@@ -112,8 +114,8 @@ typedef struct yk_entry {
 typedef struct yk_change {
     yk_numbers numbers; /* for the next call */
     uint8_t question;   /* an enum yk_question */
-    uint32_t record;    /* at 17 the first wrong record, or the number of records where only the header's last
-                           time is wrong; else 0 */
+    uint32_t record;    /* at 17 how many records from the first are legal: the number of the first wrong one,
+                           or all where only the header's last time is wrong; else 0 */
 } yk_change;
 
 typedef struct yk_position_answer {
@@ -284,7 +286,8 @@ static inline const char *yk_question_text(unsigned question) {
 /* ---- One handle: the numbers and the lent memory together
  *
  * Zero it, set the regions, and start it by yk_store_fresh or yk_store_open; its functions keep the numbers. A
- * region that is null counts as one of length 0, and the calls get a pointer that is not null for it. */
+ * region that is null counts as one of length 0, and the calls get a pointer that is not null for it. A copy of
+ * it shares the memory and is no second store: go on with one of them. */
 typedef struct yk_store {
     uint8_t *log;
     size_t log_length;
@@ -297,7 +300,7 @@ typedef struct yk_store {
     uint8_t *areas;
     size_t areas_length;
     yk_numbers numbers; /* as the last call answered them; only the store's functions write them */
-    uint32_t record;    /* as the last call answered it: at 17 the first wrong record, see yk_change */
+    uint32_t record;    /* as the last call answered it: at 17 how many records are legal, see yk_change */
 } yk_store;
 
 /* A row of a table. */
@@ -329,7 +332,7 @@ static inline size_t yk_store_bytes(yk_lengths need) {
 static inline yk_store yk_store_in(void *block, yk_lengths need) {
     yk_store store;
     memset(&store, 0, sizeof store);
-    if (block == NULL) {
+    if (!block) {
         return store;
     }
     store.index = (uint64_t *)block;
@@ -348,22 +351,22 @@ static inline yk_store yk_store_in(void *block, yk_lengths need) {
 /* A pointer that is not null. Nothing is read or written where it stands in for a null one. */
 static inline void *yk_lent_pointer(void *pointer) {
     static uint64_t nothing;
-    return pointer != NULL ? pointer : (void *)&nothing;
+    return pointer ? pointer : (void *)&nothing;
 }
 
 /* The store with a pointer that is not null and a length of 0 for each region that is not lent. */
 static inline yk_store yk_store_lent(const yk_store *store) {
     yk_store lent = *store;
     lent.log = (uint8_t *)yk_lent_pointer(store->log);
-    lent.log_length = store->log != NULL ? store->log_length : 0;
+    lent.log_length = store->log ? store->log_length : 0;
     lent.index = (uint64_t *)yk_lent_pointer(store->index);
-    lent.index_length = store->index != NULL ? store->index_length : 0;
+    lent.index_length = store->index ? store->index_length : 0;
     lent.table = (uint8_t *)yk_lent_pointer(store->table);
-    lent.table_length = store->table != NULL ? store->table_length : 0;
+    lent.table_length = store->table ? store->table_length : 0;
     lent.entries = (yk_entry *)yk_lent_pointer(store->entries);
-    lent.entries_length = store->entries != NULL ? store->entries_length : 0;
+    lent.entries_length = store->entries ? store->entries_length : 0;
     lent.areas = (uint8_t *)yk_lent_pointer(store->areas);
-    lent.areas_length = store->areas != NULL ? store->areas_length : 0;
+    lent.areas_length = store->areas ? store->areas_length : 0;
     return lent;
 }
 
@@ -434,7 +437,7 @@ static inline yk_position_answer yk_store_position(const yk_store *store, uint64
 static inline yk_table_answer yk_store_table(const yk_store *store, uint64_t time, uint8_t *out,
     size_t out_length) {
     yk_store s = yk_store_lent(store);
-    return yk_table(s.numbers, YK_LENT(s), time, (uint8_t *)yk_lent_pointer(out), out != NULL ? out_length : 0);
+    return yk_table(s.numbers, YK_LENT(s), time, (uint8_t *)yk_lent_pointer(out), out ? out_length : 0);
 }
 
 /* yk_view */
@@ -454,7 +457,7 @@ static inline yk_net_change_answer yk_store_net_change(const yk_store *store, ui
     uint8_t *out, size_t out_length, uint8_t *work, size_t work_length) {
     yk_store s = yk_store_lent(store);
     return yk_net_change(s.numbers, YK_LENT(s), a, b, (uint8_t *)yk_lent_pointer(out),
-        out != NULL ? out_length : 0, (uint8_t *)yk_lent_pointer(work), work != NULL ? work_length : 0);
+        out ? out_length : 0, (uint8_t *)yk_lent_pointer(work), work ? work_length : 0);
 }
 
 /* yk_audit */

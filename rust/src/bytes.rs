@@ -1,5 +1,6 @@
 //! Rows of a table and entries of a net change, read from their bytes.
 
+use core::cmp::Ordering;
 use core::iter::FusedIterator;
 use core::slice::ChunksExact;
 
@@ -55,6 +56,21 @@ fn row(bytes: &[u8]) -> Row {
     Row { article: number(bytes), count: number(&bytes[4..]) }
 }
 
+/// The row of an article among the first `rows` rows, or as many as there are: they ascend, so by halves.
+pub(crate) fn find(bytes: &[u8], rows: u32, article: u32) -> Option<Row> {
+    let (mut low, mut high) = (0, (rows as usize).min(bytes.len() / 8));
+    while low < high {
+        let middle = low + (high - low) / 2;
+        let row = row(&bytes[8 * middle..]);
+        match row.article.cmp(&article) {
+            Ordering::Less => low = middle + 1,
+            Ordering::Greater => high = middle,
+            Ordering::Equal => return Some(row),
+        }
+    }
+    None
+}
+
 fn step(bytes: &[u8]) -> Step {
     let row = row(&bytes[4..]);
     match bytes[2] {
@@ -107,7 +123,7 @@ impl FusedIterator for Steps<'_> {}
 
 #[cfg(test)]
 mod tests {
-    use super::{Row, Rows, Step, Steps};
+    use super::{find, Row, Rows, Step, Steps};
     extern crate std;
     use std::vec::Vec;
 
@@ -118,6 +134,22 @@ mod tests {
         assert_eq!(Rows::of(&bytes, 2).collect::<Vec<_>>(), both);
         assert_eq!((Rows::of(&bytes, 3).len(), Rows::of(&bytes, 9).len()), (3, 3));
         assert_eq!(Rows::of(&bytes, 2).next_back(), Some(both[1]));
+    }
+
+    #[test]
+    fn articles_are_found_by_halves() {
+        for rows in 0..9u32 {
+            let row = |k: u32| Row { article: 10 * k + 1, count: k };
+            let bytes: Vec<u8> =
+                (0..rows).flat_map(|k| [row(k).article, row(k).count]).flat_map(u32::to_le_bytes).collect();
+            for counted in [rows, u32::MAX] {
+                assert!((0..rows).all(|k| find(&bytes, counted, row(k).article) == Some(row(k))));
+                let absent = [0, 2, 45, row(rows).article, u32::MAX];
+                assert!(absent.iter().all(|&article| find(&bytes, counted, article).is_none()));
+            }
+            assert_eq!(find(&bytes, 1, row(1).article), None, "past the rows");
+        }
+        assert_eq!(find(&[1; 7], 1, 0x0101_0101), None, "no whole row");
     }
 
     #[test]

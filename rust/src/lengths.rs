@@ -23,7 +23,8 @@ pub struct Lengths {
 
 impl Settings {
     /// What to lend for so many records and count files. With as much, no call is refused for want of memory
-    /// until there are more of them; with less of any, some call is.
+    /// until there are more of them. It is the least: with less of a region, the call that needs it is refused,
+    /// be it the opening of so many records, the last append, the last keep or a net change.
     ///
     /// Refuses by 2, 3, 4, by 5 over 65,536 records, and by 15 over 16 files.
     ///

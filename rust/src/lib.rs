@@ -32,6 +32,31 @@
 //! # Ok::<(), yokefennel::Refusal>(())
 //! ```
 //!
+//! A store that goes on with the log it finds, or else begins. Where the log is there but damaged, nothing is
+//! written over it:
+//!
+//! ```
+//! use yokefennel::{Lent, Numbers, Refusal, Settings, Store};
+//!
+//! fn begin(settings: Settings, lent: Lent<'_>) -> Result<Store<'_>, Refusal> {
+//!     let mut store = Store::resume(Numbers::default(), lent); // no store yet
+//!     match store.reopen() {
+//!         Err(Refusal::Header) => store.start(settings)?, // no log yet
+//!         opened => opened?,
+//!     }
+//!     Ok(store)
+//! }
+//! # let settings = Settings { order: 8, page: 2, limit: 4 };
+//! # let (mut log, mut index, mut table) = (vec![0; 48], vec![0; 7], vec![0; 32]);
+//! # for records in 0..2 {
+//! #     let (log, index, table) = (&mut log[..], &mut index[..], &mut table[..]);
+//! #     let mut store = begin(settings, Lent { log, index, table, entries: &mut [], areas: &mut [] })?;
+//! #     assert_eq!(store.numbers().records, records);
+//! #     let _ = store.insert(10, 7, 50);
+//! # }
+//! # Ok::<(), Refusal>(())
+//! ```
+//!
 //! - **Time**: its unit is yours. Each request's time is above the last one's, so the first is 1 or more; time 0
 //!   is that of the empty table, and no request has it.
 //! - **Memory**: [`Settings::lengths`] says how much to lend. No call needs a count file: entries and areas may
@@ -42,7 +67,7 @@
 //!   whether it is such as accepted calls leave.
 //! - **Stack**: at most 32 kB for a call.
 //!
-//! The build needs `YK_LIB_DIR`, the folder of `libembed.a` (x86-64 Linux).
+//! The build needs `YK_LIB_DIR`, the full path of the folder of `libembed.a` (x86-64 Linux).
 #![no_std]
 #![warn(missing_docs)]
 

@@ -2,8 +2,9 @@
 
 use core::{error, fmt};
 
-/// The question answered no. Memory and numbers are as they were before the call, except where an opening is
-/// refused by [`WrongRecord`](Refusal::WrongRecord).
+/// The question answered no. Memory and numbers are as they were before the call, but a refused start or opening
+/// leaves a store without numbers, and one by [`WrongRecord`](Refusal::WrongRecord) zeroes index, table and
+/// catalogue.
 #[derive(Clone, Copy, Debug, PartialEq, Eq, Hash)]
 pub enum Refusal {
     /// 1: the numbers, the log's header and the lent lengths do not fit each other
@@ -40,7 +41,8 @@ pub enum Refusal {
     NotKept,
     /// 17: the log is not legal
     WrongRecord {
-        /// the first wrong record, or the number of records where only the header's last time is wrong
+        /// how many records from the first are legal: the number of the first wrong one, or all where only the
+        /// header's last time is wrong
         record: u32,
     },
 }
@@ -122,7 +124,7 @@ impl fmt::Display for Refusal {
     fn fmt(&self, f: &mut fmt::Formatter<'_>) -> fmt::Result {
         write!(f, "refused by {}: {}", self.question(), self.text())?;
         match self {
-            Refusal::WrongRecord { record } => write!(f, ", first at record {record}"),
+            Refusal::WrongRecord { record } => write!(f, "; legal records from the start: {record}"),
             _ => Ok(()),
         }
     }
@@ -148,6 +150,6 @@ mod tests {
     fn words_begin_with_the_number() {
         assert_eq!(Refusal::TimeNotAbove.to_string(), "refused by 6: the time is not above the last");
         let wrong = Refusal::WrongRecord { record: 4 };
-        assert_eq!(wrong.to_string(), "refused by 17: the log is not legal, first at record 4");
+        assert_eq!(wrong.to_string(), "refused by 17: the log is not legal; legal records from the start: 4");
     }
 }

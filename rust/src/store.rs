@@ -1,6 +1,6 @@
 //! The handle: numbers and lent memory together.
 
-use crate::{raw, Entry, Numbers, Refusal, Rows, Steps};
+use crate::{bytes, raw, Entry, Numbers, Refusal, Rows, Steps};
 
 /// What a maker chooses.
 #[derive(Clone, Copy, Debug, PartialEq, Eq, Hash)]
@@ -94,7 +94,7 @@ impl<'o> Table<'o> {
 
     /// The count of an article, if it is there.
     pub fn count(&self, article: u32) -> Option<u32> {
-        self.rows().find(|row| row.article == article).map(|row| row.count)
+        bytes::find(self.bytes, self.rows, article).map(|row| row.count)
     }
 }
 
@@ -144,7 +144,15 @@ impl<'a> Store<'a> {
     /// Refuses by 2, 3, 4, 5.
     pub fn fresh(settings: Settings, lent: Lent<'a>) -> Result<Store<'a>, Refusal> {
         let mut store = Store::resume(Numbers::default(), lent);
-        let Lent { log, table, entries, areas, .. } = &mut store.lent;
+        store.start(settings)?;
+        Ok(store)
+    }
+
+    /// As [`fresh`](Store::fresh), in the memory that this store has. Refused, the store is without numbers.
+    ///
+    /// Refuses by 2, 3, 4, 5.
+    pub fn start(&mut self, settings: Settings) -> Result<(), Refusal> {
+        let Lent { log, table, entries, areas, .. } = &mut self.lent;
         let answer = unsafe {
             raw::yk_fresh(
                 settings.order, settings.page, settings.limit,
@@ -152,8 +160,7 @@ impl<'a> Store<'a> {
                 entries.as_mut_ptr(), entries.len(), areas.as_ptr(), areas.len(),
             )
         };
-        store.take(answer)?;
-        Ok(store)
+        self.take(answer)
     }
 
     /// Takes up the written log that the lent one starts with: makes index and table, zeroes the catalogue.
@@ -161,15 +168,23 @@ impl<'a> Store<'a> {
     /// Refuses by 1 to 5 and 17.
     pub fn open(lent: Lent<'a>) -> Result<Store<'a>, Refusal> {
         let mut store = Store::resume(Numbers::default(), lent);
-        let Lent { log, index, table, entries, areas } = &mut store.lent;
+        store.reopen()?;
+        Ok(store)
+    }
+
+    /// As [`open`](Store::open), in the memory that this store has. Refused, the store is without numbers, and
+    /// [`start`](Store::start) may follow.
+    ///
+    /// Refuses by 1 to 5 and 17.
+    pub fn reopen(&mut self) -> Result<(), Refusal> {
+        let Lent { log, index, table, entries, areas } = &mut self.lent;
         let answer = unsafe {
             raw::yk_open(
                 log.as_ptr(), log.len(), index.as_mut_ptr(), index.len(), table.as_mut_ptr(), table.len(),
                 entries.as_mut_ptr(), entries.len(), areas.as_ptr(), areas.len(),
             )
         };
-        store.take(answer)?;
-        Ok(store)
+        self.take(answer)
     }
 
     /// Goes on with memory and numbers that a store left, for instance in memory that survives a restart. Nothing
@@ -188,9 +203,12 @@ impl<'a> Store<'a> {
         self.numbers
     }
 
-    /// The bytes of the log to save, header and records: nothing else need be.
+    /// The bytes of the log to save, header and records: nothing else need be. None where no store is started.
     pub fn log(&self) -> &[u8] {
-        front(self.lent.log, 24 + 24 * self.numbers.records as usize)
+        match self.numbers.order {
+            0 => &[],
+            _ => front(self.lent.log, 24 + 24 * self.numbers.records as usize),
+        }
     }
 
     /// The rows of the current table.

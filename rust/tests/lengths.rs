@@ -5,7 +5,7 @@ use yokefennel::{Entry, Lengths, Lent, Refusal, Settings, Store};
 /// Whether leaf m, 1 or more, brings an inner node with it.
 fn brings_a_node(order: usize, leaf: usize) -> bool {
     let mut q = leaf;
-    while q.is_multiple_of(order) {
+    while q % order == 0 {
         q /= order;
     }
     q % order == 1

@@ -77,7 +77,8 @@ fn tables_and_net_changes() {
     assert_eq!(table(&store, 45), (vec![row(7, 44)], Side::Later, 1));
     let mut out = [0; 32];
     let day = store.table(20, &mut out).unwrap();
-    assert_eq!((day.count(3), day.count(4)), (Some(12), None));
+    assert_eq!([2, 3, 4, 7, 8].map(|article| day.count(article)), [None, Some(12), None, Some(50), None]);
+    assert_eq!(store.table(9, &mut out).unwrap().count(0), None);
 
     let (mut out, mut work) = ([0xA5; 96], [0xA5; 64]);
     let change = store.net_change(20, 45, &mut out, &mut work).unwrap();
@@ -134,6 +135,40 @@ fn starts_that_are_refused() {
     assert_eq!(Store::open(memory.lend()).unwrap_err(), Refusal::Header);
 }
 
+/// A log if there is one, and else a fresh store, in one function.
+fn open_or_fresh(settings: Settings, lent: Lent<'_>) -> Result<Store<'_>, Refusal> {
+    let mut store = Store::resume(Numbers::default(), lent);
+    if store.reopen().is_err() {
+        store.start(settings)?;
+    }
+    Ok(store)
+}
+
+#[test]
+fn open_else_fresh() {
+    let mut memory = Memory::of(9, 2);
+    assert_eq!(open_or_fresh(Settings { order: 1, ..SETTINGS }, memory.lend()).unwrap_err(), Refusal::Order);
+    let mut store = open_or_fresh(SETTINGS, memory.lend()).unwrap();
+    assert!(store.audit() && store.numbers().records == 0);
+    store.insert(10, 7, 50).unwrap();
+    assert_eq!(open_or_fresh(SETTINGS, memory.lend()).unwrap().numbers().records, 1);
+}
+
+/// A start or an opening that is refused leaves the handle without numbers; the log can be opened again.
+#[test]
+fn refused_in_the_handle() {
+    let mut memory = Memory::of(9, 2);
+    let mut store = build(&mut memory);
+    let (numbers, saved) = (store.numbers(), store.log().to_vec());
+    assert_eq!(store.start(Settings { limit: 0, ..SETTINGS }), Err(Refusal::RowLimit));
+    assert_eq!((store.numbers(), store.log().len()), (Numbers::default(), 0));
+    assert_eq!(store.insert(61, 1, 1), Err(Refusal::Header));
+    store.reopen().unwrap();
+    assert!(store.audit() && store.numbers() == numbers && store.log() == saved);
+    store.start(SETTINGS).unwrap();
+    assert!(store.audit() && store.log().len() == 24);
+}
+
 #[test]
 fn opening_and_a_wrong_record() {
     let mut memory = Memory::of(9, 2);
@@ -178,7 +213,8 @@ fn no_count_files_and_nothing_lent() {
     let nothing = || Lent { log: &mut [], index: &mut [], table: &mut [], entries: &mut [], areas: &mut [] };
     assert_eq!(Store::fresh(SETTINGS, nothing()).unwrap_err(), Refusal::Memory);
     assert_eq!(Store::open(nothing()).unwrap_err(), Refusal::Header);
-    assert!(!Store::resume(Numbers::default(), nothing()).audit());
+    let none = Store::resume(Numbers::default(), nothing());
+    assert!(!none.audit() && none.log().is_empty());
 }
 
 /// Every byte of every region wrong in turn: the audit sees it, and no call leaves the memory or panics.

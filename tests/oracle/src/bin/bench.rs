@@ -83,6 +83,10 @@ fn main() {
     same(&proved, &plain);
     append.line("append, a record", "ns", MOST_RECORDS as f64);
 
+    let opening = best(|| proved.open().unwrap(), || plain.open().unwrap());
+    same(&proved, &plain);
+    opening.line("opening, the whole log", "ms", 1e6);
+
     let last = plain.numbers.last;
     let asked: Vec<u64> = (0..POSITIONS).map(|_| random.from(0, last)).collect();
     assert!(asked.iter().all(|&t| proved.position(t).unwrap() as usize == plain.position(t)));
