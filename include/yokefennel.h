@@ -114,8 +114,8 @@ typedef struct yk_entry {
 typedef struct yk_change {
     yk_numbers numbers; /* for the next call */
     uint8_t question;   /* an enum yk_question */
-    uint32_t record;    /* at 17 how many records from the first are legal: the number of the first wrong one,
-                           or all where only the header's last time is wrong; else 0 */
+    uint32_t record;    /* at 17 the first wrong record, or the number of records where only the header's last
+                           time is wrong: so many records from the start are legal; else 0 */
 } yk_change;
 
 typedef struct yk_position_answer {
@@ -300,7 +300,7 @@ typedef struct yk_store {
     uint8_t *areas;
     size_t areas_length;
     yk_numbers numbers; /* as the last call answered them; only the store's functions write them */
-    uint32_t record;    /* as the last call answered it: at 17 how many records are legal, see yk_change */
+    uint32_t record;    /* as the last call answered it: at 17 the first wrong record, see yk_change */
 } yk_store;
 
 /* A row of a table. */

@@ -12,8 +12,8 @@ pub struct Change {
     pub numbers: Numbers,
     /// 01's number of the question answered no, or 0
     pub question: u8,
-    /// at 17 how many records from the first are legal: the number of the first wrong one, or all where only the
-    /// header's last time is wrong
+    /// at 17 the first wrong record, or the number of records where only the header's last time is wrong: so many
+    /// records from the start are legal; else 0
     pub record: u32,
 }
 

@@ -41,8 +41,8 @@ pub enum Refusal {
     NotKept,
     /// 17: the log is not legal
     WrongRecord {
-        /// how many records from the first are legal: the number of the first wrong one, or all where only the
-        /// header's last time is wrong
+        /// the first wrong record, or the number of records where only the header's last time is wrong: so many
+        /// records from the start are legal
         record: u32,
     },
 }
@@ -124,7 +124,7 @@ impl fmt::Display for Refusal {
     fn fmt(&self, f: &mut fmt::Formatter<'_>) -> fmt::Result {
         write!(f, "refused by {}: {}", self.question(), self.text())?;
         match self {
-            Refusal::WrongRecord { record } => write!(f, "; legal records from the start: {record}"),
+            Refusal::WrongRecord { record } => write!(f, " beyond its first {record} records"),
             _ => Ok(()),
         }
     }
@@ -150,6 +150,6 @@ mod tests {
     fn words_begin_with_the_number() {
         assert_eq!(Refusal::TimeNotAbove.to_string(), "refused by 6: the time is not above the last");
         let wrong = Refusal::WrongRecord { record: 4 };
-        assert_eq!(wrong.to_string(), "refused by 17: the log is not legal; legal records from the start: 4");
+        assert_eq!(wrong.to_string(), "refused by 17: the log is not legal beyond its first 4 records");
     }
 }
