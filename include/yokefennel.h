@@ -45,7 +45,7 @@
  * Threads      The calls hold no state. Any number of stores may be used from any number of threads, one
  *              call at a time for each store.
  * Stack        No call takes more than 32 kB of it: yk_keep 27 kB, yk_table and yk_net_change 19 kB, yk_audit 10 kB,
- *              the others 3 kB at most. Nothing is allocated.
+ *              the others 2 kB at most. Nothing is allocated.
  * Damage       Whatever numbers and lent memory hold, every call ends and touches nothing else, and a
  *              refusal changes nothing (but for yk_open at 17). yk_audit says whether it is all such as
  *              accepted calls leave; yk_open makes a store from any legal log.
