@@ -32,7 +32,13 @@ pub extern "C" fn yk_version() -> u32
 }
 
 #[no_mangle]
-pub extern "C" fn yk_lengths_for(order: u16, page: u16, limit: u32, records: u32, files: u32) -> YkLengths
+pub extern "C" fn yk_lengths_for(
+    order: u16,
+    page: u16,
+    limit: u32,
+    records: u32,
+    files: u32,
+) -> YkLengths
     ensures { λ r. ⌜ LengthsCrossed r order page limit records files ⌝ }
 {
     numbered::lengths_for(order, page, limit, records, files)
