@@ -1,18 +1,17 @@
 -- Where the lengths answered are lent, no call is refused for want of memory: of each question that asks for memory the answer is
 -- yes, and a refusal by any other is none of these. Assumes nothing.
-use Prim.Native.Nat.{ℕ, zero, suc, _+_, _*_, _/_, _≤_, _<_}
+use Prim.Native.Nat.{ℕ, zero, suc, _+_, _*_, _≤_, _<_}
 use mathlib.Core.Path.{_≡_, refl, sym, ap, _∙_}
 use mathlib.Core.List.{List, [], _∷_}
 use mathlib.Core.Bool.{Bool, true, false, cond, _&&_, false≢true}
 use native.Mathlib.Omega.{arith}
-use native.Mathlib.Nat.{le-div-iff-mul-le, mul-comm}
 use lib.ListN.{length}
 use lib.Dec.{leb}
 use borrow.Author.Tests.{le-leb, lt-ltb}
 use Rattle.model.specs.Answers.{Outcome, answers, refuses, refusesAt, Question, firstNo, unlessNo, TableSaid, OutsetSaid}
 use Rattle.model.specs.Settings.{recordsInRange}
 use Rattle.model.specs.Pages.{indexNeed}
-use Rattle.model.specs.Memory.{Memory, State, capacity, capacityOf, logLong, indexLong, tableLong}
+use Rattle.model.specs.Memory.{Memory, State, capacityOf, logLong, indexLong, tableLong}
 use Rattle.model.specs.Starts.{After, after, notStarted, freshOf, openQuestions, wellWritten, openOf}
 use Rattle.model.specs.Changes.{unchanged, roomFor, insertQuestions, presentQuestions, insertOf, deleteOf, updateOf}
 use Rattle.model.specs.Queries.{Written, Viewed, Netted, timeQuestions, tableQuestions, netQuestions, positionOf, tableOf, viewOf, netOf}
@@ -20,6 +19,7 @@ use Rattle.model.specs.Files.{keepQuestions, keepOf, dropQuestions, dropOf}
 use Rattle.model.specs.Promises.{refusedBy}
 use Rattle.model.specs.Calls.{Call, answerOf, Accepted}
 use Rattle.model.proofs.Compare.{and-both}
+use Rattle.model.proofs.AuditLaws.{within-capacity}
 use Rattle.pages.proofs.PagedLaws.{index-need-mono}
 use Rattle.lending.specs.declared.Lengths.{Lengths}
 use Rattle.lending.specs.Lengths.{lengthsFor, lengthsOf}
@@ -61,13 +61,6 @@ abbrev changeLacks : After → Bool
 changeLacks r = lacking (r .outcome)
 
 -- ---- the five regions
-
--- the capacity is the most files that the three bounds let be
-pub within-capacity : (R entries bytes k : ℕ) → 1 ≤ R → k ≤ 16 → k ≤ entries → 8 * R * k ≤ bytes → k ≤ capacity R entries bytes
-unfolding capacity
-within-capacity R entries bytes k some few lent long =
-    let whole : k ≤ bytes / (8 * R) = le-div-iff-mul-le {k = 8 * R} {x = k} {y = bytes} (omega arith) .1 (omega (arith, mul-comm (8 * R) k)) in
-    omega arith
 
 module _ (d N R n f : ℕ) (l : Lengths) (a : Answered d N R n f l) where
   -- an index for n records serves fewer

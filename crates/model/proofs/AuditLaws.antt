@@ -3,7 +3,8 @@ use Prim.Native.Nat.{ℕ, zero, suc, _+_, _-_, _*_, _/_, _≤_}
 use mathlib.Core.Path.{_≡_, refl, ap, _∙_}
 use mathlib.Core.List.{List, [], _∷_}
 use mathlib.Core.Bool.{Bool, true, false, not, _&&_, _||_}
-use native.Mathlib.Nat.{min-le-left, min-le-right, le-trans}
+use native.Mathlib.Omega.{arith}
+use native.Mathlib.Nat.{min-le-left, min-le-right, le-trans, le-div-iff-mul-le, mul-comm}
 use lib.ListN.{length, take, drop, replicate, length-drop}
 use lib.Seq.{length-take-le}
 use lib.Dec.{leb, ltb, eqb}
@@ -34,6 +35,13 @@ capacity-entries R entries bytes = le-trans (min-le-right 16 _) (min-le-left ent
 pub capacity-areas : (R entries bytes : ℕ) → capacity R entries bytes ≤ bytes / (8 * R)
 unfolding capacity
 capacity-areas R entries bytes = le-trans (min-le-right 16 _) (min-le-right entries _)
+
+-- the capacity is the most files that the three bounds let be, the last by a product in place of the division
+pub within-capacity : (R entries bytes k : ℕ) → 1 ≤ R → k ≤ 16 → k ≤ entries → 8 * R * k ≤ bytes → k ≤ capacity R entries bytes
+unfolding capacity
+within-capacity R entries bytes k some few lent long =
+    let whole : k ≤ bytes / (8 * R) = le-div-iff-mul-le {k = 8 * R} {x = k} {y = bytes} (omega arith) .1 (omega (arith, mul-comm (8 * R) k)) in
+    omega arith
 
 -- ---- zero entries
 

@@ -10,6 +10,7 @@ use lib.ListN.{length, getD, set, take, drop, length-append, length-set}
 use lib.Dec.{eqb}
 use borrow.Author.Tests.{eqb-true, eqb-false, ne-eqb}
 use Rattle.codec.specs.Parts.{put}
+use Rattle.codec.proofs.PartLaws.{length-put}
 use Rattle.model.specs.Shape.{opens, host, padded, leavesOf, leafWords, separator, innerWords}
 use Rattle.model.specs.Numbering.{nodes, leafNode, innerNode}
 use Rattle.model.specs.Tree.{Packed}
@@ -19,7 +20,7 @@ use Rattle.tree.proofs.Numbers.{leaf-in}
 use Rattle.tree.proofs.Hosts.{opens-none}
 use Rattle.tree.proofs.Takers.{Hosted, hosted}
 use Rattle.tree.proofs.Apart.{leaf-apart, inner-leaf, inner-apart, inner-in}
-use Rattle.tree.proofs.Parts.{part-set-other, part-set-same, part-put-same, part-put-other, length-put, length-padded}
+use Rattle.tree.proofs.Parts.{part-set-other, part-set-same, part-put-same, part-put-other, length-padded}
 use Rattle.tree.proofs.Packings.{LeavesAt, ByLeaf, by-leaf, packed, leaves-at}
 use Rattle.tree.proofs.Leaves.{leaves-full, leaves-part}
 use Rattle.tree.proofs.Growths.{leaf-old, leaf-more, leaf-new, inner-old, inner-skip, inner-more, inner-new}
@@ -74,7 +75,7 @@ module _ (at : ℕ → ℕ) (d : ℕ) (two : 2 ≤ d) (keys : List ℕ) (x : ℕ
         no m e o = let z : _≡_ {A = ℕ} 0 1 = cc (opens-none d two) in omega arith
 
     own : 0 < q → opens d q ≡ true → Stepped (put xs (at (innerNode d q)) (padded (d - 1) (separator d keys q ∷ [])))
-    own p o = record { long = length-put (d - 1) xs (at (innerNode d q)) vs (rw len (pl .room (innerNode d q) here)); leaves = leaves; inners = inners }
+    own p o = record { long = length-put xs (at (innerNode d q)) vs (rw len (pl .room (innerNode d q) here)); leaves = leaves; inners = inners }
       where
         vs : List ℕ
         vs = padded (d - 1) (separator d keys q ∷ [])

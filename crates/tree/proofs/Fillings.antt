@@ -13,6 +13,7 @@ use lib.Seq.{drop-set-lt, drop-drop}
 use lib.Dec.{eqb}
 use borrow.Author.Tests.{eqb-false}
 use Rattle.codec.specs.Parts.{put}
+use Rattle.codec.proofs.PartLaws.{length-put, drop-put}
 use Rattle.model.specs.Shape.{opens, host, padded, leavesOf}
 use Rattle.model.specs.Numbering.{nodes, leafNode, innerNode, nodeWord}
 use Rattle.model.specs.Tree.{indexWords, withTree, Packed}
@@ -20,7 +21,7 @@ use Rattle.tree.specs.Append.{slot, withSeparator, withLeaf, appendOf, f
 use Rattle.tree.proofs.Orders.{le-or-lt}
 use Rattle.tree.proofs.Leaves.{leaves-none, leaves-next, leaves-mono}
 use Rattle.tree.proofs.Numbers.{nodes-mono}
-use Rattle.tree.proofs.Parts.{drop-put, length-put, length-padded}
+use Rattle.tree.proofs.Parts.{length-padded}
 use Rattle.tree.proofs.Packings.{tree-length}
 use Rattle.tree.proofs.Rooms.{placed, leaf-room, inner-room, separator-room}
 use Rattle.tree.proofs.Appends.{append-packed}
@@ -56,7 +57,7 @@ module _ (d : ℕ) (two : 2 ≤ d) where
   put-inside : (e p v : ℕ) (xs : List ℕ) → p + (d - 1) ≤ e → e ≤ length xs → Inside e xs (put xs p (padded (d - 1) (v ∷ [])))
   put-inside e p v xs h l =
       let n : length (padded (d - 1) (v ∷ [])) ≡ d - 1 = length-padded (d - 1) (v ∷ []) (omega arith) in
-      record { long = length-put (d - 1) xs p (padded (d - 1) (v ∷ [])) (rw n (omega arith)); past = drop-put (d - 1) xs e p (padded (d - 1) (v ∷ [])) (omega arith) (rw n h) }
+      record { long = length-put xs p (padded (d - 1) (v ∷ [])) (rw n (omega arith)); past = drop-put e xs p (padded (d - 1) (v ∷ [])) (rw n h) (omega arith) }
 
   inside-both : {e : ℕ} {xs ys zs : List ℕ} → Inside e xs ys → Inside e ys zs → Inside e xs zs
   inside-both a b = record { long = b .long ∙ a .long; past = b .past ∙ a .past }

@@ -10,17 +10,10 @@ use lib.Arith.{digits-mod}
 use lib.Dec.{eqb}
 use borrow.Author.Tests.{eqb-true, eq-eqb}
 use Rattle.model.specs.Shape.{valuation, cofactor, cofactorUpTo, opens, lastOpened, host}
+use Rattle.model.proofs.Compare.{and-left, and-right}
 use Rattle.tree.specs.Append.{slot}
 use Rattle.tree.proofs.Orders.{le-or-lt}
 use Rattle.tree.proofs.Valuations.{valuation-pow, cofactor-pow, restored, cofactor-odd}
-
-and-left : (a b : Bool) → (a && b) ≡ true → a ≡ true
-and-left true b e = refl
-and-left false b e = e
-
-and-right : (a b : Bool) → (a && b) ≡ true → b ≡ true
-and-right true b e = e
-and-right false b e = absurd (let z : _≡_ {A = ℕ} 0 1 = cc in omega arith)
 
 -- the leaf that opened block b of level 1 + l
 abbrev pub start : ℕ → ℕ → ℕ → ℕ

@@ -5,9 +5,10 @@ use mathlib.Core.Logic.{_⊎_, ⊎-elim}
 use mathlib.Core.List.{List, [], _∷_, _++_, append-assoc}
 use native.Mathlib.Omega.{arith}
 use lib.ListN.{length, set, take, drop, length-append, length-drop, length-set, length-replicate, take-append-drop}
-use lib.Seq.{drop-set-lt, drop-set-add, take-set-le, take-set-lt, length-take-le, take-append-le, take-at, drop-at, drop-drop, drop-append-le, set-at}
+use lib.Seq.{drop-set-lt, drop-set-add, take-set-le, take-set-lt, length-take-le, take-append-le, take-at, drop-at, drop-append-le, set-at}
 use borrow.Rule.Slice.PartMut.{putMid, same-len-mid}
 use Rattle.codec.specs.Parts.{put, zeros}
+use Rattle.codec.proofs.PartLaws.{drop-put}
 use Rattle.model.specs.Shape.{padded}
 
 module _ (w : ℕ) (xs : List ℕ) where
@@ -28,21 +29,6 @@ module _ (w : ℕ) (xs : List ℕ) where
   pub part-put-same : (a : ℕ) (vs : List ℕ) → length vs ≡ w → a ≤ length xs → take w (drop a (put xs a vs)) ≡ vs
   part-put-same a vs e l = rw (drop-at (take a xs) _ a (length-take-le a xs l)) (take-at vs _ w e)
 
-  pub length-put : (a : ℕ) (vs : List ℕ) → a + length vs ≤ length xs → length (put xs a vs) ≡ length xs
-  length-put a vs h = simp (length-append, length-drop) (omega (arith, length-take-le a xs (omega arith)))
-
-  -- what lies past a write
-  pub drop-put : (a p : ℕ) (vs : List ℕ) → p ≤ length xs → p + length vs ≤ a → drop a (put xs p vs) ≡ drop a xs
-  drop-put a p vs l q =
-      let k = length vs in
-      let n : a ≡ p + (k + (a - p - k)) = omega arith in
-      let m : p + k + (a - p - k) ≡ p + (k + (a - p - k)) = omega arith in
-      let d : drop (p + (k + (a - p - k))) (put xs p vs) ≡ drop (p + (k + (a - p - k))) xs =
-      sym (drop-drop (k + (a - p - k)) p (put xs p vs))
-      ∙ rw (drop-at (take p xs) (vs ++ drop (p + k) xs) p (length-take-le p xs l))
-      (sym (drop-drop (a - p - k) k (vs ++ drop (p + k) xs)) ∙ rw (drop-at vs (drop (p + k) xs) k refl, drop-drop, m)) in
-      rw n d
-
   pub part-put-other : (a p : ℕ) (vs : List ℕ) → length vs ≡ w → p ≤ length xs → (a + w ≤ p) ⊎ (p + w ≤ a) → take w (drop a (put xs p vs)) ≡ take w (drop a xs)
   part-put-other a p vs e l h = ⊎-elim before after h
     where
@@ -54,7 +40,7 @@ module _ (w : ℕ) (xs : List ℕ) where
           front (vs ++ drop (p + length vs) xs) ∙ sym (front (drop p xs)) ∙ rw (take-append-drop p xs)
 
       after : p + w ≤ a → take w (drop a (put xs p vs)) ≡ take w (drop a xs)
-      after q = rw (drop-put a p vs l (omega arith))
+      after q = rw (drop-put a xs p vs (omega arith) l)
 
 -- one word more
 pub padded-more : (w x : ℕ) (ys : List ℕ) → length ys < w → padded w (ys ++ (x ∷ [])) ≡ set (padded w ys) (length ys) x

@@ -9,9 +9,10 @@ use native.Mathlib.Nat.{le-refl, zero-mul, zero-add, mul-le-mul-right, not-suc-l
 use lib.ListN.{length, getD, take, drop, replicate, length-replicate, take-append-drop, replicate-append-replicate}
 use lib.Seq.{take-add, take-at, drop-at}
 use Rattle.codec.specs.Parts.{put, zeros, part}
+use Rattle.codec.proofs.PartLaws.{length-put, drop-put}
 use Rattle.model.specs.Numbering.{nodes, nodeWord}
 use Rattle.model.specs.Tree.{treeOf, indexWords, nodesOf, withNodes, withTree, withoutNodes, Packed}
-use Rattle.tree.proofs.Parts.{length-put, drop-put, part-put-same, part-put-other}
+use Rattle.tree.proofs.Parts.{part-put-same, part-put-other}
 use Rattle.tree.proofs.Packings.{Words, tree-length, tree-words}
 
 -- ---- two indexes are one if their nodes are and the words past them
@@ -38,7 +39,7 @@ module _ (d : ℕ) where
   with-length (node ∷ ns) k xs h l =
       let n : length node ≡ d - 1 = h 0 (omega arith) in
       let le : suc k ≤ k + suc (length ns) = omega arith in
-      let len : length (put xs (k * (d - 1)) node) ≡ length xs = length-put (d - 1) xs (k * (d - 1)) node (rw n (omega (arith, mul-le-mul-right (d - 1) le))) in
+      let len : length (put xs (k * (d - 1)) node) ≡ length xs = length-put xs (k * (d - 1)) node (rw n (omega (arith, mul-le-mul-right (d - 1) le))) in
       let e : suc k + length ns ≡ k + suc (length ns) = omega arith in
       with-length ns (suc k) (put xs (k * (d - 1)) node) (words-rest node ns h) (rw (len, e) l) ∙ len
 
@@ -51,10 +52,10 @@ module _ (d : ℕ) where
       let n : length node ≡ d - 1 = h 0 (omega arith) in
       let le : suc k ≤ k + suc (length ns) = omega arith in
       let fit : k * (d - 1) + (d - 1) ≤ (k + suc (length ns)) * (d - 1) = omega (arith, mul-le-mul-right (d - 1) le) in
-      let len : length (put xs (k * (d - 1)) node) ≡ length xs = length-put (d - 1) xs (k * (d - 1)) node (rw n (omega arith)) in
+      let len : length (put xs (k * (d - 1)) node) ≡ length xs = length-put xs (k * (d - 1)) node (rw n (omega arith)) in
       let e : suc k + length ns ≡ k + suc (length ns) = omega arith in
       (rw e at (with-past ns (suc k) (put xs (k * (d - 1)) node) (words-rest node ns h) (rw (len, e) l)))
-      ∙ drop-put (d - 1) xs ((k + suc (length ns)) * (d - 1)) (k * (d - 1)) node (omega arith) (rw n fit)
+      ∙ drop-put ((k + suc (length ns)) * (d - 1)) xs (k * (d - 1)) node (rw n fit) (omega arith)
 
   -- the nodes before node k are not touched either
   with-before : (ns : List (List ℕ)) (k : ℕ) (xs : List ℕ) → Words (d - 1) ns → (k + length ns) * (d - 1) ≤ length xs → (i : ℕ) → i < k
@@ -65,7 +66,7 @@ module _ (d : ℕ) where
       let n : length node ≡ d - 1 = h 0 (omega arith) in
       let le : suc k ≤ k + suc (length ns) = omega arith in
       let fit : k * (d - 1) + (d - 1) ≤ (k + suc (length ns)) * (d - 1) = omega (arith, mul-le-mul-right (d - 1) le) in
-      let len : length (put xs (k * (d - 1)) node) ≡ length xs = length-put (d - 1) xs (k * (d - 1)) node (rw n (omega arith)) in
+      let len : length (put xs (k * (d - 1)) node) ≡ length xs = length-put xs (k * (d - 1)) node (rw n (omega arith)) in
       let e : suc k + length ns ≡ k + suc (length ns) = omega arith in
       with-before ns (suc k) (put xs (k * (d - 1)) node) (words-rest node ns h) (rw (len, e) l) i (omega arith)
       ∙ part-put-other (d - 1) xs (i * (d - 1)) (k * (d - 1)) node n (omega arith) (inl (omega (arith, mul-le-mul-right (d - 1) b)))
@@ -78,7 +79,7 @@ module _ (d : ℕ) where
       let n : length node ≡ d - 1 = h 0 (omega arith) in
       let le : suc k ≤ k + suc (length ns) = omega arith in
       let fit : k * (d - 1) + (d - 1) ≤ (k + suc (length ns)) * (d - 1) = omega (arith, mul-le-mul-right (d - 1) le) in
-      let len : length (put xs (k * (d - 1)) node) ≡ length xs = length-put (d - 1) xs (k * (d - 1)) node (rw n (omega arith)) in
+      let len : length (put xs (k * (d - 1)) node) ≡ length xs = length-put xs (k * (d - 1)) node (rw n (omega arith)) in
       let e : suc k + length ns ≡ k + suc (length ns) = omega arith in
       let z : k + 0 ≡ k = omega arith in
       rw z (with-before ns (suc k) (put xs (k * (d - 1)) node) (words-rest node ns h) (rw (len, e) l) k (le-refl (suc k))
@@ -87,7 +88,7 @@ module _ (d : ℕ) where
       let n : length node ≡ d - 1 = h 0 (omega arith) in
       let le : suc k ≤ k + suc (length ns) = omega arith in
       let fit : k * (d - 1) + (d - 1) ≤ (k + suc (length ns)) * (d - 1) = omega (arith, mul-le-mul-right (d - 1) le) in
-      let len : length (put xs (k * (d - 1)) node) ≡ length xs = length-put (d - 1) xs (k * (d - 1)) node (rw n (omega arith)) in
+      let len : length (put xs (k * (d - 1)) node) ≡ length xs = length-put xs (k * (d - 1)) node (rw n (omega arith)) in
       let e : suc k + length ns ≡ k + suc (length ns) = omega arith in
       let z : k + suc i ≡ suc k + i = omega arith in
       rw z (with-part ns (suc k) (put xs (k * (d - 1)) node) (words-rest node ns h) (rw (len, e) l) i (le-of-suc-le-suc b))

@@ -7,20 +7,18 @@ use mathlib.Core.List.{List, [], _∷_, _++_, map}
 use lib.ListN.{length, replicate}
 use Rattle.codec.specs.Parts.{zeros}
 use Rattle.model.specs.declared.Entry.{Entry}
-use Rattle.model.specs.declared.Side.{Side}
 use Rattle.model.specs.declared.Side.the-variants.{Earlier, Later}
-use Rattle.model.specs.declared.Place.{Place}
 use Rattle.model.specs.declared.Place.the-variants.{Empty, Area, Current}
 use Rattle.model.specs.Answers.{answers, refuses, refusesAt}
 use Rattle.model.specs.Records.{headerBytes}
 use Rattle.model.specs.Memory.{Memory, State, state, capacity}
 use Rattle.model.specs.Outset.{held, apart}
 use Rattle.model.specs.Starts.{after, freshOf, openOf}
-use Rattle.model.specs.Queries.{positionOf, tableOf, Viewed, viewOf, netOf}
+use Rattle.model.specs.Queries.{positionOf, tableOf, viewOf, netOf}
 use Rattle.model.specs.Files.{keepOf}
 use Rattle.model.specs.Calls.{keep, drop, run}
 use Rattle.worked.proofs.Computing.{computing}
-use Rattle.worked.proofs.WorkedLog.{workedNumbers, worked, entry}
+use Rattle.worked.proofs.WorkedLog.{workedNumbers, worked, entry, table20, seen}
 use Rattle.worked.proofs.QuestionOne.{numbersOf, pair}
 
 -- ---- 17 and fresh store
@@ -81,9 +79,6 @@ wide =
     let m = worked .memory in
     state workedNumbers (record { log = m .log; index = m .index; table = m .table; catalogue = replicate 4 (entry 0 0); areas = replicate 100 9 })
 
-abbrev table20 : List ℕ
-table20 = 3 ∷ 0 ∷ 0 ∷ 0 ∷ 12 ∷ 0 ∷ 0 ∷ 0 ∷ 7 ∷ 0 ∷ 0 ∷ 0 ∷ 50 ∷ 0 ∷ 0 ∷ 0 ∷ zeros 16
-
 abbrev table40 : List ℕ
 table40 = 7 ∷ 0 ∷ 0 ∷ 0 ∷ 44 ∷ 0 ∷ 0 ∷ 0 ∷ zeros 24
 
@@ -122,9 +117,6 @@ unfolding computing
 five-held = refl
 
 -- ---- outsets
-
-abbrev seen : Place → ℕ → Side → ℕ → List ℕ → Viewed
-seen place k side far part = record { outcome = answers (record { place = place; rows = k; side = side; distance = far }); rows = part }
 
 abbrev rows60 : List ℕ
 rows60 = 7 ∷ 0 ∷ 0 ∷ 0 ∷ 44 ∷ 0 ∷ 0 ∷ 0 ∷ 9 ∷ 0 ∷ 0 ∷ 0 ∷ 6 ∷ 0 ∷ 0 ∷ 0 ∷ []

@@ -135,17 +135,19 @@ returns-6 c catalogue e =
     let c3 = c4 .before .before in
     let c2 = c3 .before .before in
     let c1 = c2 .before .before in
-    let x = c1 .before .before .before .before .before .before .before .before .args in
+    let q = c1 .before in
+    let bytes = q .before .before .before .before .before .before in
+    let x = bytes .before .args in
     let R = x .s .limit in
-    let fine = c1 .before .is-sound .ensures .1 (c1 .if1 .taken) in
+    let fine = q .is-sound .ensures .1 (c1 .if1 .taken) in
     let lent = ap (λ (y : Catalogue). y .lent) e in
-    let known : AreBytes (x .log .now) = λ i. omega (arith, c1 .before .before .before .before .before .before .before .shared-slice-known .given i) in
+    let known : AreBytes (x .log .now) = λ i. omega (arith, bytes .shared-slice-known .given i) in
     let size : length (take (24 * R - 0) (x .out .now)) ≡ 24 * R = length-take-le (24 * R - 0) (x .out .now) (omega (arith, c4 .if4 .left)) ∙ sub-zero (24 * R) in
     let space : length (take (16 * R - 0) (x .work .now)) ≡ 16 * R = length-take-le (16 * R - 0) (x .work .now) (omega (arith, c5 .if5 .left)) ∙ sub-zero (16 * R) in
     net-answers (storeOf (x .s) (x .log .now) (x .index .now) (x .current .now) catalogue (x .areas .now)) (x .a) (x .b) (x .out .now) (x .work .now) (x .c) (w .work-out-both .result) (k .merge-both .result) _ _
     (w .work-out-both .kept .1 .1 .1 .1 .1 .1 .1 .1 .0 ∙ space) (k .merge-both .kept .1 .1 .1 .0 ∙ size) known
     (loaded-by-value catalogue e (x .s .files) (fine .files-sixteen) (rw lent at (fine .files-lent))) (w .work-out-both .ensures .1) (k .merge-both .ensures .1)
-    (rw (← ap (λ (y : Catalogue). y .lent) e) (sym (c1 .before .is-sound .ensures .0) ∙ c1 .if1 .taken)) (omega (arith, c2 .if2 .left)) (omega (arith, c3 .if3 .left)) (omega (arith, c4 .if4 .left)) (omega (arith, c5 .if5 .left))
+    (rw (← ap (λ (y : Catalogue). y .lent) e) (sym (q .is-sound .ensures .0) ∙ c1 .if1 .taken)) (omega (arith, c2 .if2 .left)) (omega (arith, c3 .if3 .left)) (omega (arith, c4 .if4 .left)) (omega (arith, c5 .if5 .left))
 
 pub net-change-spec : {M : Type 1} → statement M
 net-change-spec =

@@ -66,9 +66,15 @@ same-length-4 c = search needs
 returns-2 : tie.Need-returns-2 Inv-loop μ-loop
 returns-2 c = search needs
 
+-- the loop's head, from where there is room
+abbrev loop-at : tie.After-room Inv-loop μ-loop → tie.At-loop Inv-loop μ-loop
+loop-at c =
+    let k = c .before .before in
+    let told = k .before .before in
+    told .before .before .before .before .before
+
 -- a line fits behind the bytes in use
-fits : (c : tie.After-room Inv-loop μ-loop)
-    → c .room .given .0 .0 + 65 ≤ length (c .before .before .before .before .before .before .before .before .before .loop .buffer)
+fits : (c : tie.After-room Inv-loop μ-loop) → c .room .given .0 .0 + 65 ≤ length (loop-at c .loop .buffer)
 fits c = rw (c .room .given .1) at (c .before .before .make-room .ensures)
 
 list-time-requires : tie.Need-list-time-requires Inv-loop μ-loop
@@ -84,7 +90,7 @@ loop-again : tie.Need-loop-again Inv-loop μ-loop
 loop-again c =
     let listed = c .before .before .before .before in
     let roomy = listed .before .before .before .before in
-    let l = roomy .before .before .before .before .before .before .before .before .before .loop in
+    let l = loop-at roomy .loop in
     let kept = listed .list-time .kept .1 .1 .1 .1 .1 .1 in
     (omega arith, kept .0 ∙ l .inv .1, kept .1 .0 ∙ l .inv .2, omega (arith, fits roomy, kept .1 .0, listed .list-time .ensures))
 
