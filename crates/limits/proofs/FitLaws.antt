@@ -33,13 +33,6 @@ pub files-past : (R entries areas n : ℕ) → min 16 entries < n → leb n (cap
 unfolding capacity
 files-past R entries areas n past = lt-leb n (capacity R entries areas) (omega arith)
 
--- and all three at once, by a product in place of the division
-pub within-capacity : (R entries areas n : ℕ) → 1 ≤ R → n ≤ 16 → n ≤ entries → 8 * R * n ≤ areas → n ≤ capacity R entries areas
-unfolding capacity
-within-capacity R entries areas n some few lent long =
-    let g : n ≤ areas / (8 * R) = le-div-iff-mul-le {k = 8 * R} {x = n} {y = areas} (omega arith) .1 (omega arith) in
-    omega arith
-
 -- the five lengths and the two counts
 pub fit-of : (s : Numbers) (log index table entries areas : ℕ) → InRange s → 24 + 24 * s .records ≤ log → indexNeed (s .order) (s .page) (s .records) ≤ index → 8 * s .limit ≤ table
     → s .live ≤ s .limit → s .files ≤ capacity (s .limit) entries areas → Fit s log index table entries areas
