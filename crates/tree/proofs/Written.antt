@@ -10,7 +10,7 @@ use lib.ListN.{length, getD, take, drop, replicate, length-replicate, take-appen
 use lib.Seq.{take-add, take-at, drop-at}
 use Rattle.codec.specs.Parts.{put, zeros, part}
 use Rattle.codec.proofs.PartLaws.{length-put, drop-put}
-use Rattle.model.specs.Numbering.{nodes, nodeWord}
+use Rattle.model.specs.Numbering.{nodeWord}
 use Rattle.model.specs.Tree.{treeOf, indexWords, nodesOf, withNodes, withTree, withoutNodes, Packed}
 use Rattle.tree.proofs.Parts.{part-put-same, part-put-other}
 use Rattle.tree.proofs.Packings.{Words, tree-length, tree-words}
