@@ -82,7 +82,12 @@ fn print_table(store: &Store, name: &str, time: u64, out: &mut [u8]) -> Result<(
 }
 
 fn print_net_change(
-    store: &Store, name: &str, from: u64, to: u64, out: &mut [u8], work: &mut [u8],
+    store: &Store,
+    name: &str,
+    from: u64,
+    to: u64,
+    out: &mut [u8],
+    work: &mut [u8],
 ) -> Result<(), Refusal> {
     let steps = store.net_change(from, to, out, work)?.steps();
     println!("{name}: {} entries", steps.len());

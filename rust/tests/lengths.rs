@@ -73,7 +73,8 @@ fn one_less(need: Lengths) -> [(Lengths, Refusal); 7] {
 }
 
 fn fill(settings: Settings, records: u32, lengths: Lengths) -> Result<(), Refusal> {
-    let (mut log, mut index, mut table) = (vec![0; lengths.log], vec![0; lengths.index], vec![0; lengths.table]);
+    let (mut log, mut index, mut table) =
+        (vec![0; lengths.log], vec![0; lengths.index], vec![0; lengths.table]);
     let (mut entries, mut areas) = (vec![Entry::default(); lengths.entries], vec![0; lengths.areas]);
     let lent = Lent {
         log: &mut log,
