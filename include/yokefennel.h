@@ -83,7 +83,7 @@ enum yk_question {
     YK_NOT_TO_KEEP = 14,     /* time 0, or kept already */
     YK_CATALOGUE_FULL = 15,  /* no space for a count file */
     YK_NOT_KEPT = 16,        /* no count file of that time */
-    YK_WRONG_RECORD = 17     /* the log is not legal; `record` says where */
+    YK_WRONG_RECORD = 17     /* the log is not legal; `record` is the first wrong one */
 };
 
 /* Where the rows are that a table is worked out from. */
@@ -114,8 +114,9 @@ typedef struct yk_entry {
 typedef struct yk_change {
     yk_numbers numbers; /* for the next call */
     uint8_t question;   /* an enum yk_question */
-    uint32_t record;    /* at 17 the first wrong record, or the number of records where only the header's last
-                           time is wrong: so many records from the start are legal; else 0 */
+    uint32_t record;    /* at 17 the first wrong record: the smallest k such that records 0 to k begin no legal
+                           log, or the number of records where only the header's last time is wrong. Either
+                           way so many records from the start are legal. Else 0 */
 } yk_change;
 
 typedef struct yk_position_answer {

@@ -12,8 +12,8 @@ pub struct Change {
     pub numbers: Numbers,
     /// 01's number of the question answered no, or 0
     pub question: u8,
-    /// at 17 the first wrong record, or the number of records where only the header's last time is wrong: so many
-    /// records from the start are legal; else 0
+    /// at 17 the first wrong record: the smallest k such that records 0 to k begin no legal log, or the number of
+    /// records where only the header's last time is wrong. Either way so many records from the start are legal. Else 0
     pub record: u32,
 }
 

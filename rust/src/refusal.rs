@@ -41,8 +41,8 @@ pub enum Refusal {
     NotKept,
     /// 17: the log is not legal
     WrongRecord {
-        /// the first wrong record, or the number of records where only the header's last time is wrong: so many
-        /// records from the start are legal
+        /// the first wrong record: the smallest k such that records 0 to k begin no legal log, or the number of records
+        /// where only the header's last time is wrong. Either way so many records from the start are legal
         record: u32,
     },
 }

@@ -178,11 +178,23 @@ fn opening_and_a_wrong_record() {
     memory.table.fill(0xA5);
     assert!(Store::open(memory.lend()).unwrap().audit());
     assert!(memory.index == index && memory.table == table, "the same to the byte");
-    memory.log[24 + 24 * 4 + 20] ^= 1;
-    assert_eq!(Store::open(memory.lend()).unwrap_err(), Refusal::WrongRecord { record: 4 });
-    memory.log[24 + 24 * 4 + 20] ^= 1;
-    memory.log[16] ^= 1;
-    assert_eq!(Store::open(memory.lend()).unwrap_err(), Refusal::WrongRecord { record: 8 });
+    // bytes of the log that are damaged, and the record told: its length, the header's last time, a count
+    let (length, last, count) = (|k: usize| 24 + 24 * k, 16, |k: usize| 24 + 24 * k + 20);
+    let damages: [(&[usize], u32); 6] = [
+        (&[count(4)], 4),
+        (&[last], 8),
+        (&[length(7), length(2)], 2),
+        (&[length(7), last], 7),
+        // an insertion with another count is legal; the deletion that repeats the true one is not
+        (&[count(1)], 4),
+        (&[count(0)], 2),
+    ];
+    for (places, record) in damages {
+        places.iter().for_each(|&place| memory.log[place] ^= 1);
+        assert_eq!(Store::open(memory.lend()).unwrap_err(), Refusal::WrongRecord { record });
+        places.iter().for_each(|&place| memory.log[place] ^= 1);
+    }
+    assert!(Store::open(memory.lend()).unwrap().audit());
 }
 
 /// What docs/GUIDE.md advises at 17: the records before the first wrong one are a legal log.

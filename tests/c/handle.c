@@ -90,7 +90,13 @@ static void open_again(void) {
     log_bytes[24 + 24 * 4 + 20] ^= 1;
     require(yk_store_open(&store) == YK_WRONG_RECORD && store.record == 4, "the first wrong record");
     require(store.numbers.order == 0 && store.numbers.records == 0, "numbers of a refused opening");
+    log_bytes[24 + 24 * 7] ^= 1;
+    log_bytes[16] ^= 1;
+    require(yk_store_open(&store) == YK_WRONG_RECORD && store.record == 4, "the first of two wrong records");
+    log_bytes[24 + 24 * 7] ^= 1;
     log_bytes[24 + 24 * 4 + 20] ^= 1;
+    require(yk_store_open(&store) == YK_WRONG_RECORD && store.record == 8, "only the last time wrong");
+    log_bytes[16] ^= 1;
 }
 
 /* Null regions: as if of length 0, whatever length stands beside them. */

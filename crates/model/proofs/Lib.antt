@@ -16,5 +16,6 @@ pub mod PageLaws
 pub mod PromiseLaws
 pub mod AppendLaws
 pub mod RecordLaws
+pub mod FirstWrongLaws
 pub mod AuditLaws
 pub mod FileLaws

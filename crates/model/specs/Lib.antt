@@ -11,6 +11,7 @@ pub mod Memory
 pub mod Outset
 pub mod NetChange
 pub mod Starts
+pub mod FirstWrong
 pub mod Changes
 pub mod Queries
 pub mod Files

@@ -1,3 +1,4 @@
 pub mod Lengths
 pub mod Spans
 pub mod AnswerCases
+pub mod Telling

@@ -2,6 +2,7 @@
 -- memory that is lent. The promises are those of model. Assumes nothing.
 use Prim.Native.Nat.{ℕ, _+_, _≤_}
 use mathlib.Core.Path.{_≡_}
+use mathlib.Core.Logic.{_↔_}
 use mathlib.Core.List.{List}
 use mathlib.Core.Bool.{cond}
 use lib.ListN.{length}
@@ -15,7 +16,8 @@ use Rattle.model.specs.declared.ViewAnswer.{ViewAnswer}
 use Rattle.model.specs.declared.NetChangeAnswer.{NetChangeAnswer}
 use Rattle.model.specs.Answers.{Outcome, verdictOutcome, positionOutcome, tableOutcome, viewOutcome, netChangeOutcome}
 use Rattle.model.specs.Memory.{Memory, State, state}
-use Rattle.model.specs.Starts.{After, after}
+use Rattle.model.specs.Starts.{After, after, openOf}
+use Rattle.model.specs.FirstWrong.{DueAt17}
 use Rattle.model.specs.Promises.{AppendPromise, FilesPromise, PositionPromise, TablePromise, ViewPromise, NetChangePromise}
 use Rattle.lending.specs.declared.LengthsAnswer.{LengthsAnswer}
 use Rattle.lending.specs.Lengths.{lengthsOf, lengthsOutcome}
@@ -37,6 +39,12 @@ pub record ChangeCrossed (Kept : Outcome Unit → State → Type 0) (r : YkChang
 -- fresh store and opening: exactly what 01 says, on any memory
 abbrev pub StartCrossed : YkChange → Memory → After → Type 0
 StartCrossed r memory' defined = ChangeCrossed (λ o st'. after o st' ≡ defined) r memory'
+
+-- 02, wish 4, of what an opening answers that keeps this promise: question 17 and record k exactly where that is due
+abbrev pub CrossedTellsFirstWrong : Type 0
+CrossedTellsFirstWrong =
+    (m : Memory) (r : YkChange) (memory' : Memory) → StartCrossed r memory' (openOf m)
+    → (k : ℕ) → ((r .question ≡ 17) × (r .«record» ≡ k)) ↔ DueAt17 m k
 
 -- insert, delete and update
 abbrev pub AppendCrossed : ℕ → YkChange → State → Memory → After → Type 0

@@ -3,3 +3,4 @@ pub mod StepLaws
 pub mod Replays
 pub mod Questions
 pub mod Rebuilds
+pub mod Telling

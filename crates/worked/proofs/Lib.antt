@@ -6,6 +6,7 @@ pub mod TreeCases
 pub mod RowCases
 pub mod QuestionOne
 pub mod StartCases
+pub mod FirstWrongCases
 pub mod QuestionCases
 pub mod QueryCases
 pub mod MemoryCases

@@ -1,15 +1,14 @@
 -- The questions of fresh store and opening in their order (01, "The questions, in order"), each two neighbours answered no
--- together, each one alone, and the least lengths that suffice; "all zero from a fresh store or an opening"; and the record
--- number at 17 ("a record number k such that records 0 to k begin no legal log, or n where only the header's last time is
--- wrong"). What 17 leaves in memory is in MemoryCases. Assumes nothing.
+-- together, each one alone, and the least lengths that suffice; "all zero from a fresh store or an opening". The record number
+-- at 17 is in FirstWrongCases, what 17 leaves in memory in MemoryCases. Assumes nothing.
 use Prim.Native.Nat.{ℕ}
 use mathlib.Core.Path.{_≡_, refl}
 use mathlib.Core.List.{List, [], _∷_, _++_, map}
 use mathlib.Core.Bool.{false}
 use lib.ListN.{set, take, replicate}
-use Rattle.model.specs.Answers.{Outcome, answers, refuses, refusesAt}
+use Rattle.model.specs.Answers.{answers, refuses}
 use Rattle.model.specs.Settings.{settingsOf}
-use Rattle.model.specs.Records.{Rec, insertion, deletion, recordsBytes, headerBytes}
+use Rattle.model.specs.Records.{Rec, insertion, recordsBytes, headerBytes}
 use Rattle.model.specs.Memory.{Memory, state}
 use Rattle.model.specs.Starts.{After, freshQuestions, freshOf, openQuestions, wellWritten, openOf}
 use Rattle.worked.proofs.Computing.{computing}
@@ -74,7 +73,7 @@ fresh-enough = refl
 -- ---- opening
 
 -- a log with the header for these numbers
-abbrev logWith : (d N R n last : ℕ) → List Rec → List ℕ
+abbrev pub logWith : (d N R n last : ℕ) → List Rec → List ℕ
 logWith d N R n last rs = headerBytes (numbersOf d N R n last 0 0) ++ recordsBytes rs
 
 abbrev good : List Rec
@@ -130,23 +129,3 @@ open-enough : openOf (lent (logWith 2 2 1 1 10 good) 1 8)
     }
 unfolding computing
 open-enough = refl
-
--- ---- 17 and its record number
-
-abbrev openedAt : (n last : ℕ) → List Rec → Outcome Unit
-openedAt n last rs = openOf (lent (logWith 2 2 1 n last rs) 9 8) .outcome
-
--- a wrong record 0; a wrong record 1; records right and the last time wrong (k = n); no record and a last time (k = 0);
--- a wrong record and a wrong last time (the record's number); a second live row where R = 1; a record wrong in its form
-wrong-numbers : (openedAt 1 10 (insertion 1 10 5 8 ∷ []) ∷ openedAt 2 20 (insertion 0 10 5 8 ∷ insertion 1 20 5 8 ∷ []) ∷ openedAt 1 11 good
-    ∷ openedAt 0 5 [] ∷ openedAt 2 99 (insertion 0 10 5 8 ∷ deletion 1 20 6 8 ∷ []) ∷ openedAt 2 20 (insertion 0 10 5 8 ∷ insertion 1 20 6 8 ∷ [])
-    ∷ openedAt 2 20 (insertion 0 10 5 8 ∷ record { size = 24; kind = 4; id = 1; time = 20; article = 5; count = 8 } ∷ []) ∷ [])
-    ≡ refusesAt 17 0 ∷ refusesAt 17 1 ∷ refusesAt 17 1 ∷ refusesAt 17 0 ∷ refusesAt 17 1 ∷ refusesAt 17 1 ∷ refusesAt 17 1 ∷ []
-unfolding computing
-wrong-numbers = refl
-
--- none after the header's n is looked at; a header that cuts an update in half is a plain deletion's
-cut-short : (openedAt 1 10 (insertion 0 10 5 8 ∷ insertion 9 9 9 9 ∷ []) ∷ openedAt 2 20 (insertion 0 10 5 8 ∷ deletion 1 20 5 8 ∷ insertion 2 20 5 9 ∷ []) ∷ [])
-    ≡ answers tt ∷ answers tt ∷ []
-unfolding computing
-cut-short = refl
