@@ -1,8 +1,10 @@
-//! Generators of input for a log reader: legal logs, and logs damaged in one field or one rule at a
-//! time.
+//! Generators of input for a log reader: legal logs, logs damaged in one field or one rule at a time,
+//! and logs damaged in several records.
 
+mod change;
 mod damage;
 mod legal;
+mod several;
 mod wrong_end;
 
 pub use legal::legal_log;
@@ -36,7 +38,7 @@ pub type Damage = fn(&mut Random, Log) -> Vec<u8>;
 
 /// All damages by their names.
 pub fn damages() -> Vec<(&'static str, Damage)> {
-    [&damage::DAMAGES[..], &wrong_end::WRONG_ENDS[..]].concat()
+    [&damage::DAMAGES[..], &wrong_end::WRONG_ENDS[..], &several::SEVERAL[..]].concat()
 }
 
 /// One input and the name of what it tries.

@@ -1,10 +1,15 @@
 //! The generators: legal logs are legal and varied; each damage is refused now and then, by the
-//! number it aims at.
+//! number it aims at; of several wrong records the first is answered.
 
+mod common;
+
+use common::legal::form_right;
 use oracle::generate::{case, damages, legal_log, Damage, MOST_LISTED};
+use oracle::layout::Header;
 use oracle::listing::{listing, HEADING};
-use oracle::log::{first_wrong, last_time};
+use oracle::log::{first_wrong, last_time, records};
 use oracle::random::Random;
+use oracle::store::{Memory, Refusal, Store};
 use std::collections::BTreeSet;
 
 #[test]
@@ -62,6 +67,59 @@ fn each_damage_is_refused_as_it_should_be() {
         };
         assert!(refusals(damage).contains(expected), "{name}");
     }
+}
+
+/// The record number at 17, if the opening is refused by 17.
+fn answered_at_17(log: Vec<u8>) -> Option<u32> {
+    let memory = Memory { log, index: vec![0; 400], table: vec![0; 8192], catalogue: vec![], areas: vec![] };
+    match Store::over(memory).open() {
+        Err(Refusal { question: 17, record }) => record,
+        _ => None,
+    }
+}
+
+/// Where the first damaged record is wrong by its form, it is the one answered, whatever is wrong
+/// behind it.
+#[test]
+fn several_wrong_records() {
+    let named = |name: &str| name.starts_with("two records") || name.starts_with("three records");
+    let several: Vec<(&str, Damage)> = damages().into_iter().filter(|(name, _)| named(name)).collect();
+    assert_eq!(several.len(), 4);
+    for (name, damage) in several {
+        let (mut two, mut three, mut last) = (0, 0, 0);
+        for case in 0..600 {
+            let mut random = Random::for_case(14, case);
+            let log = legal_log(&mut random);
+            if log.records.len() > 300 {
+                continue;
+            }
+            let legal = log.records.clone();
+            let bytes = damage(&mut random, log);
+            let header = Header::read(&bytes);
+            let damaged = records(&bytes, header.records);
+            let first = (0..legal.len()).find(|&k| damaged[k] != legal[k]);
+            let wrong: Vec<usize> = (0..legal.len()).filter(|&k| !form_right(k, &damaged[k])).collect();
+            if first.is_none() || first != wrong.first().copied() {
+                continue;
+            }
+            assert_eq!(answered_at_17(bytes), Some(wrong[0] as u32), "{name}");
+            let far = legal.len() >= 20 && wrong.windows(2).all(|pair| pair[1] - pair[0] >= legal.len() / 6);
+            two += (far && wrong.len() >= 2) as u32;
+            three += (far && wrong.len() == 3) as u32;
+            last += (far && wrong.len() >= 2 && header.last != last_time(&damaged)) as u32;
+        }
+        assert!(two >= 20, "{name}: {two}");
+        assert_eq!(three >= 5, name.starts_with("three"), "{name}: {three}");
+        assert_eq!(last >= 20, name.ends_with("last time"), "{name}: {last}");
+    }
+}
+
+#[test]
+fn cases_cover_all_damages() {
+    let name = |number| case(&mut Random::for_case(18, number)).name;
+    let seen: BTreeSet<&str> = (0..1500).map(name).collect();
+    let expected = damages().into_iter().map(|(name, _)| name).chain(["legal log", "any bytes"]);
+    assert_eq!(seen, expected.collect());
 }
 
 #[test]

@@ -1,8 +1,13 @@
 //! The random lists of calls that two stores are compared by: they meet every call, every question, every
-//! capacity, and memory that the audit denies.
+//! capacity, logs with several wrong records, and memory that the audit denies.
 
+mod common;
+
+use common::legal::form_right;
 use oracle::calls::{call, damage, start, Call, Plan};
+use oracle::layout::Header;
 use oracle::limits::{ORDERS, PAGE_SIZES};
+use oracle::log::records;
 use oracle::outset::{Place, Side};
 use oracle::random::Random;
 use oracle::store::{Refusal, Store};
@@ -16,6 +21,8 @@ struct Met {
     ends: BTreeMap<(&'static str, u8), u32>,
     /// calls on memory that question 1 passes and the audit denies
     denied: BTreeMap<&'static str, u32>,
+    /// openings of a log with another wrong record far behind the one answered
+    wrong_behind: u32,
     orders: BTreeSet<u16>,
     page_sizes: BTreeSet<u16>,
     row_limits: BTreeSet<u32>,
@@ -48,11 +55,24 @@ fn name(call: &Call) -> &'static str {
     }
 }
 
+/// Whether the next record that its own form makes wrong is more than ten behind this one.
+fn wrong_far_behind(log: &[u8], k: u32) -> bool {
+    let records = records(log, Header::read(log).records);
+    let next = (k as usize + 1..records.len()).find(|&j| !form_right(j, &records[j]));
+    next.is_some_and(|next| next > k as usize + 10)
+}
+
 /// Makes the call on the oracle and notes what it meets.
 fn make(store: &mut Store, call: Call, met: &mut Met) -> Result<(), Refusal> {
     match call {
         Call::Fresh(order, page_size, row_limit) => store.fresh(order, page_size, row_limit),
-        Call::Open => store.open(),
+        Call::Open => {
+            let answer = store.open();
+            if let Err(Refusal { record: Some(k), .. }) = answer {
+                met.wrong_behind += wrong_far_behind(&store.memory.log, k) as u32;
+            }
+            answer
+        }
         Call::Insert(time, article, count) => store.insert(time, article, count),
         Call::Delete(time, article) => store.delete(time, article),
         Call::Update(time, article, count) => store.update(time, article, count),
@@ -186,4 +206,9 @@ fn denied_memory_is_met() {
         assert!(met.denied[later] > 100, "{later}");
     }
     assert!(met.denied["audit"] > 100);
+}
+
+#[test]
+fn several_wrong_records_are_met() {
+    assert!(lists().wrong_behind >= 20, "{}", lists().wrong_behind);
 }

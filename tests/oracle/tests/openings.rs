@@ -1,14 +1,14 @@
-//! Opening: its refusals in order, the record number at 17, and what is zero then.
+//! Opening: its refusals in order, what 17 refuses, and what is zero then.
 
 mod common;
 
-use common::{memory_with, refused, strange, AMPLE, STRANGE};
+use common::{memory_with, refused, strange, wrong_record, AMPLE, STRANGE};
 use oracle::layout::{Header, Record, DELETION, INSERTION};
 use oracle::limits::MOST_RECORDS;
 use oracle::log::{first_wrong, log_bytes, log_length};
 use oracle::outset::Entry;
 use oracle::samples::{log_by_hand, log_of, records_of, Request, BY_HAND};
-use oracle::store::{Lengths, Memory, Numbers, Refusal, Store};
+use oracle::store::{Lengths, Memory, Numbers, Store};
 use Request::{Delete, Insert, Update};
 
 /// A refusal before 17: the number, memory unchanged and all numbers zero.
@@ -18,24 +18,6 @@ fn refusal(memory: Memory) -> u8 {
     let number = refused(store.open());
     assert_eq!(store, Store::over(memory));
     number
-}
-
-/// The record number of a refusal by 17. Nodes, table and catalogue are zero, what lies past them
-/// is unchanged.
-fn wrong_record(memory: Memory) -> u32 {
-    let header = Header::read(&memory.log);
-    let mut store = Store::over(memory.clone());
-    let Err(Refusal { question: 17, record: Some(record) }) = store.open() else {
-        panic!("not refused by 17")
-    };
-    let mut expected = memory.clone();
-    let words = oracle::tree::word_count(header.order, header.page_size, header.records);
-    expected.index[..words].fill(0);
-    expected.table[..8 * header.row_limit as usize].fill(0);
-    let capacity = oracle::store::capacity(header.row_limit, &memory);
-    expected.catalogue[..capacity].fill(Entry::default());
-    assert_eq!(store, Store::over(expected));
-    record
 }
 
 fn wrong_record_of(requests: &[Request]) -> u32 {
@@ -108,21 +90,12 @@ fn an_accepted_opening_writes_nodes_table_and_catalogue_only() {
     assert_eq!(store.numbers, numbers);
 }
 
+/// n − 1 records of an update whose last one is the deletion: its time still fits, a legal log.
 #[test]
-fn wrong_last_time_alone_gives_n() {
-    assert_eq!(wrong_record(header_changed(|header| header.last = 61)), 8);
-    assert_eq!(wrong_record(header_changed(|header| header.last = 0)), 8);
-    // n = 0 with a last time
-    assert_eq!(wrong_record(header_changed(|header| header.records = 0)), 0);
-    // n − 1 records of an update whose last one is the deletion: its time still fits, a legal log
+fn half_an_update_is_legal() {
     let mut store = Store::over(header_changed(|header| header.records = 7));
     store.open().unwrap();
     assert_eq!((store.numbers.live, store.numbers.last), (1, 60));
-}
-
-#[test]
-fn wrong_record_and_wrong_last_time_give_the_record() {
-    assert_eq!(wrong_record(header_changed(|header| (header.row_limit, header.last) = (1, 61))), 1);
 }
 
 #[test]
@@ -181,17 +154,6 @@ fn rows() {
     // article and count may be any value
     let records = records_of(&[Insert(1, 0, 0), Insert(2, u32::MAX, u32::MAX), Delete(3, 0, 0)]);
     assert_eq!(first_wrong(2, &records), None);
-}
-
-/// The smallest wrong record: the front parts before it are legal, those from it on are not.
-#[test]
-fn smallest_wrong_record() {
-    let mut records = records_of(&BY_HAND);
-    records[4].count = 13;
-    records[7].id = 0;
-    let wrong: Vec<bool> = (0..8).map(|k| first_wrong(4, &records[..=k]).is_some()).collect();
-    assert_eq!(wrong, [false, false, false, false, true, true, true, true]);
-    assert_eq!(first_wrong(4, &records), Some(4));
 }
 
 /// Capacity comes from the header's row limit: areas of 100 bytes.

@@ -1,6 +1,7 @@
 //! Damage to a legal log, one field or one rule at a time. A few of them can leave a legal log; the
 //! oracle tells.
 
+use super::change::{self, other_small, Change};
 use super::{Damage, Log};
 use crate::layout::{Record, DELETION, INSERTION};
 use crate::limits::MOST_RECORDS;
@@ -8,43 +9,20 @@ use crate::log::last_time;
 use crate::random::Random;
 use crate::table::timeslice;
 
-pub const DAMAGES: [(&str, Damage); 29] = [
-    ("record length", |random, log| {
-        change_record(random, log, |random, record| record.length = other_small(random, 24))
-    }),
-    ("record kind", |random, log| {
-        change_record(random, log, |random, record| record.kind = random.pick(&[0, 1, 4, 0x102, u16::MAX]))
-    }),
-    ("insertion for deletion or back", |random, log| {
-        change_record(random, log, |_, record| record.kind = INSERTION + DELETION - record.kind)
-    }),
-    ("record id", |random, log| {
-        change_record(random, log, |random, record| record.id = other(random, record.id))
-    }),
-    ("record time", |random, log| change_record(random, log, |random, record| record.time = random.next())),
-    ("record time 0", |random, log| change_record(random, log, |_, record| record.time = 0)),
+pub const DAMAGES: [(&str, Damage); 30] = [
+    ("record length", |random, log| change_record(random, log, change::length)),
+    ("record kind", |random, log| change_record(random, log, change::kind)),
+    ("insertion for deletion or back", |random, log| change_record(random, log, change::turned)),
+    ("record id", |random, log| change_record(random, log, change::id)),
+    ("record time", |random, log| change_record(random, log, change::time)),
+    ("record time 0", |random, log| change_record(random, log, change::no_time)),
     ("time equal to the one before", |random, log| change_time(random, log, |time| time)),
     ("time lower than the one before", |random, log| change_time(random, log, |time| time.saturating_sub(1))),
-    ("article", |random, log| {
-        change_record(random, log, |random, record| record.article = other(random, record.article))
-    }),
+    ("article", |random, log| change_record(random, log, change::article)),
     ("insertion of a present article", insert_present),
-    ("deletion of an absent article", |random, log| {
-        change_one(
-            random,
-            log,
-            |record| record.kind == DELETION,
-            |random, record| record.article = other(random, record.article),
-        )
-    }),
-    ("deletion with another count", |random, log| {
-        change_one(
-            random,
-            log,
-            |record| record.kind == DELETION,
-            |random, record| record.count = other(random, record.count),
-        )
-    }),
+    ("insertion with another count", |random, log| change_kind(random, log, INSERTION, change::count)),
+    ("deletion of an absent article", |random, log| change_kind(random, log, DELETION, change::article)),
+    ("deletion with another count", |random, log| change_kind(random, log, DELETION, change::count)),
     ("row limit below the rows live", fewer_rows),
     ("header length", |random, log| {
         change_header(random, log, |random, log| log.header.length = other_small(random, 24))
@@ -113,31 +91,21 @@ pub const DAMAGES: [(&str, Damage); 29] = [
     }),
 ];
 
-fn other(random: &mut Random, value: u32) -> u32 {
-    let step = random.pick(&[1, u32::MAX, 256, 1 << 16, 1 << 24]);
-    value.wrapping_add(step)
-}
-
-fn other_small(random: &mut Random, value: u16) -> u16 {
-    random.pick(&[0, value - 1, value + 1, value + 256, u16::MAX])
-}
-
 fn change_header(random: &mut Random, mut log: Log, change: fn(&mut Random, &mut Log)) -> Vec<u8> {
     change(random, &mut log);
     log.bytes()
 }
 
-fn change_record(random: &mut Random, log: Log, change: fn(&mut Random, &mut Record)) -> Vec<u8> {
+fn change_record(random: &mut Random, log: Log, change: Change) -> Vec<u8> {
     change_one(random, log, |_| true, change)
 }
 
+fn change_kind(random: &mut Random, log: Log, kind: u16, change: Change) -> Vec<u8> {
+    change_one(random, log, |record| record.kind == kind, change)
+}
+
 /// Changes one of the records that answer the test, if there is one.
-fn change_one(
-    random: &mut Random,
-    mut log: Log,
-    test: fn(&Record) -> bool,
-    change: fn(&mut Random, &mut Record),
-) -> Vec<u8> {
+fn change_one(random: &mut Random, mut log: Log, test: impl Fn(&Record) -> bool, change: Change) -> Vec<u8> {
     let places: Vec<usize> = (0..log.records.len()).filter(|&k| test(&log.records[k])).collect();
     if !places.is_empty() {
         // the first and the last of them more often than another

@@ -1,12 +1,15 @@
 //! Stores and answers that several tests use.
 #![allow(dead_code)]
 
-use oracle::layout::Row;
+pub mod legal;
+
+use oracle::layout::{Header, Row};
 use oracle::net_change::output_length;
-use oracle::outset::Side;
+use oracle::outset::{Entry, Side};
 use oracle::samples::{log_by_hand, log_of, records_of, Request};
-use oracle::store::{Lengths, Memory, Refusal, Store, TableAnswer};
+use oracle::store::{capacity, Lengths, Memory, Refusal, Store, TableAnswer};
 use oracle::table::table_length;
+use oracle::tree::word_count;
 
 /// What a stranger filled the memory with.
 pub const STRANGE: u8 = 0xA5;
@@ -51,6 +54,24 @@ pub fn refused<T: std::fmt::Debug>(answer: Result<T, Refusal>) -> u8 {
     let refusal = answer.unwrap_err();
     assert_eq!(refusal.record, None);
     refusal.question
+}
+
+/// The record number of a refusal by 17. Nodes, table and catalogue are zero, what lies past them
+/// is unchanged.
+pub fn wrong_record(memory: Memory) -> u32 {
+    let header = Header::read(&memory.log);
+    let mut store = Store::over(memory.clone());
+    let Err(Refusal { question: 17, record: Some(record) }) = store.open() else {
+        panic!("not refused by 17")
+    };
+    let mut expected = memory.clone();
+    let words = word_count(header.order, header.page_size, header.records);
+    expected.index[..words].fill(0);
+    expected.table[..8 * header.row_limit as usize].fill(0);
+    let capacity = capacity(header.row_limit, &memory);
+    expected.catalogue[..capacity].fill(Entry::default());
+    assert_eq!(store, Store::over(expected));
+    record
 }
 
 /// Rows and answer of the table of t.
