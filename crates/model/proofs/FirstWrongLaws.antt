@@ -46,7 +46,7 @@ module _ (log : List ℕ) where
       let l : length rs ≡ n = length-records (drop 24 log) n in
       let bad : legal R (recordsOf log (suc first)) ≡ false = sym (legal-front-of (suc first) (omega arith)) ∙ first-wrong-bad R rs (omega arith) in
       record {
-        counted = h;
+        counted = omega arith;
         begin-none = λ b. false≢true (sym bad ∙ begin-iff-legal R (recordsOf log (suc first)) .0 b);
         smallest = λ j s. begin-iff-legal R (recordsOf log (suc j)) .1 (sym (legal-front-of (suc j) (omega arith)) ∙ first-wrong-before R rs (suc j) (omega arith));
       }
@@ -66,15 +66,15 @@ module _ (log : List ℕ) where
 
   -- where a record is wrong, not all are legal
   not-all : (k : ℕ) → SmallestWrong log k → legal R rs ≡ true → ⊥
-  not-all k s ok = s .begin-none (begin-iff-legal R (recordsOf log (suc k)) .1 (legal-records-front (drop 24 log) R n (suc k) (s .counted) ok))
+  not-all k s ok = s .begin-none (begin-iff-legal R (recordsOf log (suc k)) .1 (legal-records-front (drop 24 log) R n (suc k) (omega (arith, s .counted)) ok))
 
   first-wrong-one : (j k : ℕ) → FirstWrongAt log j → FirstWrongAt log k → j ≡ k
   first-wrong-one j k (inl a) (inl b) = by (compared j k)
     where
       by : Compared j k → j ≡ k
-      by (less h) = absurd (a .begin-none (b .smallest j h))
+      by (less h) = absurd (a .begin-none (b .smallest j (omega arith)))
       by (same e) = e
-      by (more h) = absurd (b .begin-none (a .smallest k h))
+      by (more h) = absurd (b .begin-none (a .smallest k (omega arith)))
   first-wrong-one j k (inl a) (inr b) = absurd (not-all j a (b .all-legal))
   first-wrong-one j k (inr a) (inl b) = absurd (not-all k b (a .all-legal))
   first-wrong-one j k (inr a) (inr b) = a .is-count ∙ sym (b .is-count)
