@@ -4,18 +4,19 @@
 use Prim.Native.Nat.{ℕ, suc, _+_, _*_, _-_, _≤_, _<_}
 use mathlib.Core.Path.{_≡_, refl, sym, ap, _∙_}
 use mathlib.Core.List.{List, _∷_, _++_, append-assoc}
-use mathlib.Core.Bool.{Bool, true, false, not, _&&_}
+use mathlib.Core.Bool.{Bool, true, false, not, _&&_, false≢true}
 use native.Mathlib.Omega.{arith}
 use lib.ListN.{length, take, drop, length-append, length-drop, replicate-append-replicate}
 use lib.Seq.{take-at, drop-at, drop-drop, length-take-le, split-at}
 use lib.Dec.{ltb, eqb}
-use borrow.Author.Tests.{ltb-true}
+use borrow.Author.Tests.{ltb-true, eqb-true, eq-eqb}
 use Rattle.codec.specs.LittleEndian.{bytes}
-use Rattle.codec.specs.Parts.{zeros, part}
+use Rattle.codec.specs.Parts.{zeros, part, same}
 use Rattle.codec.proofs.Numbers.{length-bytes}
+use Rattle.codec.proofs.Sameness.{same-true, same-false}
 use Rattle.model.specs.Rows.{Row, row, lacks, countOf, Ascending, putIn, without, rowBytes, rowsBytes, tableBytes}
 use Rattle.model.specs.Small.{Small}
-use Rattle.rows.specs.Table.{articleAt, countAt, placeOf, isAt, rowPut, rowTaken, countPut, before, recounted, rowAt}
+use Rattle.rows.specs.Table.{articleAt, countAt, placeOf, isAt, rowPut, rowTaken, countPut, before, recounted, rowAt, sameTable}
 use Rattle.rows.proofs.Places.{before-le, before-lt, before-has, before-article, before-count, put-at, without-at, recounted-at}
 use Rattle.rows.proofs.Searches.{place-of}
 use Rattle.rows.proofs.TableBytes.{length-rows-bytes, rows-bytes-append, length-front, take-table-bytes, drop-table-bytes, drop-all-rows, drop-zeros, article-table, count-at-table}
@@ -113,3 +114,17 @@ recount-table R T a c asc e =
     recount-at-place R T (before a T) c (before-lt 0 a T asc e)
     ∙ ap (λ (b : ℕ). tableBytes R (take (before a T) T ++ (row b c ∷ drop (suc (before a T)) T))) (before-article 0 a T asc e)
     ∙ ap (tableBytes R) (sym (recounted-at 0 a c T asc e))
+
+-- ---- two tables compared
+
+pub same-table-yes : (xs ys : List ℕ) (m n : ℕ) → sameTable xs m ys n ≡ true → (m ≡ n) × (xs ≡ ys)
+unfolding sameTable
+same-table-yes xs ys m n = by-test (eqb m n) refl
+  where
+    by-test : (b : Bool) → eqb m n ≡ b → b && same xs ys ≡ true → (m ≡ n) × (xs ≡ ys)
+    by-test true t e = (eqb-true m n t, same-true xs ys e)
+    by-test false t e = absurd (false≢true e)
+
+pub same-table-no : (xs ys : List ℕ) (m n : ℕ) → sameTable xs m ys n ≡ false → m ≡ n → xs ≡ ys → ⊥
+unfolding sameTable
+same-table-no xs ys m n e h = same-false xs ys (rw (eq-eqb m n h) at e)
