@@ -11,7 +11,7 @@ use lib.Seq.{take-at, take-take, drop-append-le}
 use lib.Dec.{leb, ltb, eqb}
 use borrow.Author.Tests.{le-leb, lt-ltb, ne-eqb}
 use Rattle.codec.specs.Parts.{put}
-use Rattle.codec.proofs.PartLaws.{length-put, drop-put, put-part, put-nil}
+use Rattle.codec.proofs.PartLaws.{length-put, drop-put, drop-replicate, put-part, put-nil}
 use Rattle.model.specs.declared.Numbers.{Numbers}
 use Rattle.model.specs.declared.Entry.{Entry}
 use Rattle.model.specs.Answers.{firstNo}
@@ -30,7 +30,6 @@ use Rattle.model.proofs.FileLaws.{entries-files-in}
 use Rattle.claims.proofs.Regions.{answered, none-asked, length-emptied}
 use Rattle.claims.proofs.Opened.{open-state}
 use Rattle.claims.proofs.SecondDemands.{reads, same-log, opens-alike}
-use Rattle.claims.proofs.FilesKept.{drop-replicate}
 use Rattle.claims.proofs.FileFronts.{front-files, front-areas, NextFile, next-file}
 use Rattle.claims.proofs.Kept.{areas-within, length-files}
 use Rattle.claims.proofs.Lists.{reachable-in-order}

@@ -1,5 +1,5 @@
 -- Files in order, each the table of its time: a file more, those that a test lets stay, and the zero entries behind them. Assumes nothing.
-use Prim.Native.Nat.{ℕ, zero, suc, _+_, _-_, _≤_, _<_}
+use Prim.Native.Nat.{ℕ, suc, _+_, _-_, _≤_, _<_}
 use mathlib.Core.Path.{_≡_, refl, sym, ap, _∙_}
 use mathlib.Core.List.{List, [], _∷_, _++_, append-assoc, map}
 use mathlib.Core.Bool.{Bool, true, false, cond, _||_, false≢true}
@@ -9,7 +9,7 @@ use lib.Seq.{drop-at, drop-drop}
 use lib.Dec.{ltb, eqb}
 use borrow.Author.Tests.{ltb-true, ltb-false, eqb-false}
 use Rattle.codec.specs.Parts.{put}
-use Rattle.codec.proofs.PartLaws.{take-put-past}
+use Rattle.codec.proofs.PartLaws.{take-put-past, drop-replicate}
 use Rattle.model.specs.declared.Entry.{Entry}
 use Rattle.model.specs.Records.{Rec}
 use Rattle.model.specs.Memory.{noEntry}
@@ -72,11 +72,6 @@ module _ (R last : ℕ) (rs : List Rec) where
       by false a b = b
 
 -- ---- zero entries behind them
-
-pub drop-replicate : {A : Type 0} (k n : ℕ) (x : A) → drop k (replicate n x) ≡ replicate (n - k) x
-drop-replicate zero n x = let e : n ≡ n - 0 = omega arith in ap (λ (j : ℕ). replicate j x) e
-drop-replicate (suc k) zero x = let e : 0 ≡ 0 - suc k = omega arith in ap (λ (j : ℕ). replicate j x) e
-drop-replicate (suc k) (suc n) x = let e : n - k ≡ suc n - suc k = omega arith in drop-replicate k n x ∙ ap (λ (j : ℕ). replicate j x) e
 
 -- of a catalogue with zero entries from `files` up to its capacity, the front overwritten by files and by no files
 pub rest-back : (R : ℕ) (catalogue : List Entry) (slots files : ℕ) (gs : List File) (j : ℕ) → files ≤ length gs + j → length gs + j ≤ slots

@@ -1,4 +1,6 @@
 pub mod Numbers
 pub mod PartLaws
 pub mod Moves
+pub mod Fills
 pub mod Sameness
+pub mod StretchLaws

@@ -1,16 +1,15 @@
--- One turn of each loop that fills, copies or moves, over any element type, and what the moves leave, in the whole and in a
--- lent part. Assumes nothing.
+-- One turn of each loop that copies or moves, over any element type, and what the moves leave, in the whole and in a lent
+-- part. Assumes nothing.
 use Prim.Native.Nat.{ℕ, suc, _+_, _-_, _≤_, _<_}
 use mathlib.Core.Path.{_≡_, sym, ap, _∙_}
-use mathlib.Core.List.{List, _++_, append-assoc, append-nil}
+use mathlib.Core.List.{List, _++_, append-assoc}
 use native.Mathlib.Omega.{arith}
 use native.Mathlib.Numerals.{add-one}
 use native.Mathlib.Nat.{suc-add, add-zero, add-assoc}
-use lib.ListN.{length, take, drop, getD, set, length-append, length-drop, length-set, drop-of-length-le, take-append-drop, List·getD-append}
-use borrow.Author.Fill.{fill-more}
+use lib.ListN.{length, take, drop, getD, set, length-append, length-drop, take-append-drop, List·getD-append}
 use borrow.Rule.Slice.PartMut.{putMid}
 use lib.Seq.{paste, drop-paste, paste-suc, length-paste, getD-drop, slice, slice-empty, slice-cons, length-slice, length-take-le, take-suc, getD-take, set-at, drop-cons, append-snoc}
-use Rattle.codec.specs.Parts.{zeros, part, put, movedUp, movedDown}
+use Rattle.codec.specs.Parts.{part, put, movedUp, movedDown}
 use Rattle.codec.proofs.PartLaws.{length-part, part-is-slice, part-part, put-within}
 
 module _ {A : Type 0} where
@@ -131,16 +130,3 @@ module _ {A : Type 0} where
       let n : e - a - by ≡ e - (a + by) = omega arith in
       part-moved-down a (e - a) xs 0 by (e - a - by) (omega arith) (omega arith) (omega arith) (q ∙ ap (λ (m : ℕ). movedDown (part a (e - a) xs) 0 by (m - by)) len)
       ∙ rw (add-zero, n)
-
--- ---- a fill with zeros, bytes or words: s₀ with the first i places filled
-
-abbrev pub FilledTo : List ℕ → List ℕ → ℕ → Type 0
-FilledTo s₀ s i = (i ≤ length s) × ((length s ≡ length s₀) × (s ≡ zeros i ++ drop i s₀))
-
-pub filled-more : (s₀ : List ℕ) (i : ℕ) {s : List ℕ} → FilledTo s₀ s i → i < length s → FilledTo s₀ (set s i 0) (i + 1)
-filled-more s₀ i f h = (simp length-set (omega arith), (simp length-set (f .1 .0), rw (f .1 .1) (fill-more i 0 s₀ (omega arith))))
-
-pub filled-all : (s₀ : List ℕ) (i : ℕ) {s : List ℕ} → FilledTo s₀ s i → length s ≤ i → s ≡ zeros (length s₀)
-filled-all s₀ i f h =
-    let e : i ≡ length s₀ = omega arith in
-    f .1 .1 ∙ rw (e, drop-of-length-le s₀ {i = length s₀} (omega arith)) (append-nil (zeros (length s₀)))

@@ -41,6 +41,11 @@ bytes-halves j k n =
 
 -- ---- where a number's bytes stand
 
+-- one byte is its number
+pub number-one : (xs : List ℕ) (at : ℕ) → number 1 xs at ≡ getD xs at 0
+unfolding number
+number-one xs at = omega arith
+
 pub number-drop : (w j : ℕ) (xs : List ℕ) (at : ℕ) → number w (drop j xs) at ≡ number w xs (j + at)
 unfolding number
 number-drop zero j xs at = refl
@@ -71,6 +76,12 @@ pub length-bytes : (w n : ℕ) → length (bytes w n) ≡ w
 unfolding bytes
 length-bytes zero n = refl
 length-bytes (suc w) n = ap suc (length-bytes w (n / 256))
+
+-- 0 is written as zeros
+pub bytes-zero : (w : ℕ) → bytes w 0 ≡ zeros w
+unfolding bytes
+bytes-zero zero = refl
+bytes-zero (suc w) = ap (λ (l : List ℕ). 0 ∷ l) (bytes-zero w)
 
 pub number-bytes : (w n : ℕ) (rest : List ℕ) → n < 256 ^ w → number w (bytes w n ++ rest) 0 ≡ n
 unfolding number bytes

@@ -6,7 +6,7 @@ use mathlib.Core.List.{List, [], _∷_, _++_, append-assoc, append-nil}
 use native.Mathlib.Omega.{arith}
 use native.Mathlib.Numerals.{add-one}
 use native.Mathlib.Nat.{zero-add, add-zero, suc-add, add-assoc}
-use lib.ListN.{length, take, drop, getD, set, length-append, length-drop, length-replicate, take-append-drop}
+use lib.ListN.{length, take, drop, getD, set, replicate, length-append, length-drop, length-replicate, replicate-append-replicate, take-append-drop}
 use lib.Seq.{length-take-le, getD-take, getD-drop, take-nil, take-append-le, drop-append-le, take-take, drop-drop, take-add, take-at, drop-at, set-split, drop-length, sets, sets-eq}
 use borrow.Rule.Slice.PartMut.{putMid}
 use Rattle.codec.specs.Parts.{zeros, part, put}
@@ -38,6 +38,12 @@ module _ {A : Type 0} where
       part-is-slice at k xs
       ∙ ap (drop at) (sym (take-take (at + k) n xs h) ∙ ap (take (at + k)) e ∙ take-take (at + k) n ys h)
       ∙ sym (part-is-slice at k ys)
+
+  -- what is left of n times x
+  pub drop-replicate : (k n : ℕ) (x : A) → drop k (replicate n x) ≡ replicate (n - k) x
+  drop-replicate zero n x = let e : n ≡ n - 0 = omega arith in ap (λ (j : ℕ). replicate j x) e
+  drop-replicate (suc k) zero x = let e : 0 ≡ 0 - suc k = omega arith in ap (λ (j : ℕ). replicate j x) e
+  drop-replicate (suc k) (suc n) x = let e : n - k ≡ suc n - suc k = omega arith in drop-replicate k n x ∙ ap (λ (j : ℕ). replicate j x) e
 
   -- ---- what stands where after a write
 
@@ -152,6 +158,13 @@ module _ {A : Type 0} where
       → putMid a (length xs - a) xs ys ≡ put xs a zs
   put-front a xs zs {ys} h e =
       put-within a (length xs - a) xs 0 zs (omega arith) (omega arith) e ∙ ap (λ (n : ℕ). put xs n zs) (add-zero a)
+
+-- zeros, and zeros right behind them
+pub put-zeros-more : (xs : List ℕ) (at j k : ℕ) → at ≤ length xs → put (put xs at (zeros j)) (at + j) (zeros k) ≡ put xs at (zeros (j + k))
+put-zeros-more xs at j k h =
+    ap (λ (n : ℕ). put (put xs at (zeros j)) (at + n) (zeros k)) (sym (length-replicate j 0))
+    ∙ put-append xs at (zeros j) (zeros k) h
+    ∙ ap (put xs at) (replicate-append-replicate j k 0)
 
 -- a part that was lent, `&mut xs[a..e]`, and came back filled with zeros
 pub put-zeros : (a e : ℕ) (xs : List ℕ) {ys : List ℕ} → a ≤ e → e ≤ length xs → ys ≡ zeros (length (part a (e - a) xs)) → putMid a (e - a) xs ys ≡ put xs a (zeros (e - a))

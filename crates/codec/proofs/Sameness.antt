@@ -1,14 +1,18 @@
--- Laws of `same`: it is true of equal lists and of no others, and goes by parts. Assumes nothing.
-use Prim.Native.Nat.{ℕ, zero, suc, _+_, _<_}
+-- Laws of `same`: it is true of equal lists and of no others, and lists of bytes may be compared by numbers of any width.
+-- Assumes nothing.
+use Prim.Native.Nat.{ℕ, zero, suc, _+_, _≤_}
 use mathlib.Core.Path.{_≡_, refl, sym, ap, _∙_}
 use mathlib.Core.Bool.{Bool, true, false, _&&_, false≢true}
 use mathlib.Core.List.{List, [], _∷_}
-use native.Mathlib.Numerals.{add-one}
-use lib.ListN.{length, getD, take, drop}
-use lib.Seq.{drop-cons}
+use native.Mathlib.Omega.{arith}
+use lib.ListN.{length, take}
+use lib.Seq.{take-all, take-take}
 use lib.Dec.{eqb}
-use borrow.Author.Tests.{eqb-true, eq-eqb}
+use borrow.Author.Tests.{eqb-true, eqb-false, eq-eqb}
+use Rattle.codec.specs.LittleEndian.{number, AreBytes}
 use Rattle.codec.specs.Parts.{same}
+use Rattle.codec.proofs.PartLaws.{take-more}
+use Rattle.codec.proofs.Numbers.{part-of-number}
 
 pub same-refl : (xs : List ℕ) → same xs xs ≡ true
 unfolding same
@@ -44,20 +48,29 @@ same-of-unequal xs ys h = by-test (same xs ys) refl
     by-test true e = absurd (h (same-true xs ys e))
     by-test false e = e
 
--- two lists are the same where their first n are and the rest is
-pub same-split : (n : ℕ) (xs ys : List ℕ) → same xs ys ≡ same (take n xs) (take n ys) && same (drop n xs) (drop n ys)
-unfolding same
-same-split zero xs ys = refl
-same-split (suc n) [] [] = refl
-same-split (suc n) [] (y ∷ ys) = refl
-same-split (suc n) (x ∷ xs) [] = refl
-same-split (suc n) (x ∷ xs) (y ∷ ys) = by-test (eqb x y) _ _ _ (same-split n xs ys)
-  where
-    by-test : (b p q r : Bool) → p ≡ q && r → b && p ≡ b && q && r
-    by-test true p q r e = e
-    by-test false p q r e = refl
+-- ---- by numbers of w bytes
 
--- the rests from place i: the element there, and the rests behind it
-pub same-drop : (xs ys : List ℕ) (i : ℕ) → i < length xs → i < length ys → same (drop i xs) (drop i ys) ≡ eqb (getD xs i 0) (getD ys i 0) && same (drop (i + 1) xs) (drop (i + 1) ys)
-unfolding same
-same-drop xs ys i h k = rw (add-one, drop-cons xs i 0 h, drop-cons ys i 0 k)
+-- a number that differs
+pub same-number-differs : (w : ℕ) (xs ys : List ℕ) (at : ℕ) → (number w xs at ≡ number w ys at → ⊥) → same xs ys ≡ false
+same-number-differs w xs ys at h = same-of-unequal xs ys (λ e. h (ap (λ (l : List ℕ). number w l at) e))
+
+-- a number that agrees, behind fronts that do
+pub take-more-number : (w at : ℕ) (xs ys : List ℕ) → AreBytes xs → AreBytes ys → at + w ≤ length xs → at + w ≤ length ys → take at xs ≡ take at ys
+    → number w xs at ≡ number w ys at → take (at + w) xs ≡ take (at + w) ys
+take-more-number w at xs ys hx hy lx ly e q = take-more at w xs ys e (part-of-number w xs ys at hx hy lx ly q)
+
+-- the last number decides, where all before it agrees; m reaches up to it, or into it
+pub same-last-number : (w at m : ℕ) (xs ys : List ℕ) → AreBytes xs → AreBytes ys → at + w ≡ length xs → length xs ≡ length ys → at ≤ m → take m xs ≡ take m ys
+    → eqb (number w xs at) (number w ys at) ≡ same xs ys
+same-last-number w at m xs ys hx hy n l h e = by-test (eqb (number w xs at) (number w ys at)) refl
+  where
+    front : take at xs ≡ take at ys
+    front = sym (take-take at m xs h) ∙ ap (take at) e ∙ take-take at m ys h
+
+    whole : take (at + w) xs ≡ take (at + w) ys → xs ≡ ys
+    whole q = sym (take-all (at + w) xs (omega arith)) ∙ q ∙ take-all (at + w) ys (omega arith)
+
+    by-test : (b : Bool) → eqb (number w xs at) (number w ys at) ≡ b → b ≡ same xs ys
+    by-test true t =
+        sym (same-of-equal xs ys (whole (take-more-number w at xs ys hx hy (omega arith) (omega arith) front (eqb-true (number w xs at) (number w ys at) t))))
+    by-test false t = sym (same-number-differs w xs ys at (eqb-false (number w xs at) (number w ys at) t))

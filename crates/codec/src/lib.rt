@@ -1,8 +1,8 @@
 // Little-endian numbers in byte slices, and the moves of bytes that every layer above uses.
 // Each function does what one definition of specs/ says, on any bytes; none knows what the bytes mean.
 ghost use mathlib.Core.Path.{_≡_};
-ghost use Prim.Native.Nat.{_+_, _*_, _-_, _≤_};
-ghost use lib.ListN.{length, take, drop};
+ghost use Prim.Native.Nat.{_+_, _-_, _≤_, _<_};
+ghost use lib.ListN.{length};
 ghost use Rattle.codec.specs.LittleEndian.{number, bytes};
 ghost use Rattle.codec.specs.Parts.{zeros, put, movedUp, movedDown, same};
 
@@ -65,19 +65,83 @@ pub fn put64(s: &mut [u8], at: usize, x: u64)
     put32(s, at + 4, high);
 }
 
-// ---- filling
+// ---- filling: eight bytes a step. The last step ends where the stretch does, and may go over bytes that
+// are filled already.
 
+// Two words of zeros from place `at` on.
+fn fill_two(s: &mut [u8], at: usize)
+    requires { ⌜ at + 16 ≤ length (now s) ⌝ }
+    ensures { λ _. ⌜ now (s .exit) ≡ put (now (s .entry)) at (zeros 16) ⌝ }
+{
+    put64(s, at, 0);
+    put64(s, at + 8, 0);
+}
+
+// Four words of zeros from place `at` on.
+fn fill_four(s: &mut [u8], at: usize)
+    requires { ⌜ at + 32 ≤ length (now s) ⌝ }
+    ensures { λ _. ⌜ now (s .exit) ≡ put (now (s .entry)) at (zeros 32) ⌝ }
+{
+    fill_two(s, at);
+    fill_two(s, at + 16);
+}
+
+// At most 64 bytes: the first and the last 32, 16, 8, 4 or 2 of them, or the one there is.
+fn fill_short(s: &mut [u8])
+    requires { ⌜ length (now s) ≤ 64 ⌝ }
+    ensures { λ _. ⌜ now (s .exit) ≡ zeros (length (now (s .entry))) ⌝ }
+{
+    let n = s.len();
+    if n == 0 {
+        return;
+    }
+    if 32 <= n {
+        fill_four(s, 0);
+        fill_four(s, n - 32);
+        return;
+    }
+    if 16 <= n {
+        fill_two(s, 0);
+        fill_two(s, n - 16);
+        return;
+    }
+    if 8 <= n {
+        put64(s, 0, 0);
+        put64(s, n - 8, 0);
+        return;
+    }
+    if 4 <= n {
+        put32(s, 0, 0);
+        put32(s, n - 4, 0);
+        return;
+    }
+    if 2 <= n {
+        put16(s, 0, 0);
+        put16(s, n - 2, 0);
+        return;
+    }
+    s[0] = 0;
+}
+
+// The last eight bytes first: the compiler makes memset of the loop, and so it need not come back from it.
 pub fn fill_zero(s: &mut [u8])
     ensures { λ _. ⌜ now (s .exit) ≡ zeros (length (now (s .entry))) ⌝ }
 {
-    let mut i = 0;
-    while i < s.len() {
-        s[i] = 0;
-        i += 1;
+    if s.len() <= 64 {
+        fill_short(s);
+        return;
+    }
+    let last = s.len() - 8;
+    put64(s, last, 0);
+    let words = s.len() / 8;
+    let mut word = 0;
+    while word < words {
+        put64(s, 8 * word, 0);
+        word += 1;
     }
 }
 
-// The same for the words of an index.
+// The words of an index, which are eight bytes each.
 pub fn clear_words(s: &mut [u64])
     ensures { λ _. ⌜ now (s .exit) ≡ zeros (length (now (s .entry))) ⌝ }
 {
@@ -157,47 +221,48 @@ pub fn down_eight(s: &mut [u8])
 
 // ---- comparing: eight bytes a step, since a byte loop that leaves early is not made wider by the compiler
 
-// Whether the first n words of eight bytes agree.
-fn same_words(a: &[u8], b: &[u8], n: usize) -> bool
-    requires { ⌜ 8 * n ≤ length (now a) ⌝ }
-    requires { ⌜ 8 * n ≤ length (now b) ⌝ }
-    ensures { λ r. ⌜ r ≡ same (take (8 * n) (now (a .entry))) (take (8 * n) (now (b .entry))) ⌝ }
-{
-    let mut i = 0;
-    while i < n {
-        if get64(a, 8 * i) != get64(b, 8 * i) {
-            return false;
-        }
-        i += 1;
-    }
-    true
-}
-
-// Whether the bytes from `start` on agree.
-fn same_rest(a: &[u8], b: &[u8], start: usize) -> bool
-    requires { ⌜ start ≤ length (now a) ⌝ }
+// Fewer than eight bytes: the first and the last four or two of them, or the one there is.
+fn same_short(a: &[u8], b: &[u8]) -> bool
+    requires { ⌜ length (now a) < 8 ⌝ }
     requires { ⌜ length (now a) ≡ length (now b) ⌝ }
-    ensures { λ r. ⌜ r ≡ same (drop start (now (a .entry))) (drop start (now (b .entry))) ⌝ }
+    ensures { λ r. ⌜ r ≡ same (now (a .entry)) (now (b .entry)) ⌝ }
 {
-    let mut i = start;
-    while i < a.len() {
-        if a[i] != b[i] {
+    let n = a.len();
+    if n == 0 {
+        return true;
+    }
+    if 4 <= n {
+        if get32(a, 0) != get32(b, 0) {
             return false;
         }
-        i += 1;
+        return get32(a, n - 4) == get32(b, n - 4);
     }
-    true
+    if 2 <= n {
+        if get16(a, 0) != get16(b, 0) {
+            return false;
+        }
+        return get16(a, n - 2) == get16(b, n - 2);
+    }
+    a[0] == b[0]
 }
 
 pub fn same_bytes(a: &[u8], b: &[u8]) -> bool
     ensures { λ r. ⌜ r ≡ same (now (a .entry)) (now (b .entry)) ⌝ }
 {
-    if a.len() != b.len() {
+    let n = a.len();
+    if n != b.len() {
         return false;
     }
-    let n = a.len() / 8;
-    if same_words(a, b, n) {
-        return same_rest(a, b, 8 * n);
+    if n < 8 {
+        return same_short(a, b);
     }
-    false
+    let last = n - 8;
+    let mut at = 0;
+    while at < last {
+        if get64(a, at) != get64(b, at) {
+            return false;
+        }
+        at += 8;
+    }
+    get64(a, last) == get64(b, last)
 }

@@ -1,9 +1,8 @@
 -- `codec::clear_words` meets its contract. Invariant: the first k words are zero and the rest is as it was. Measure: the words
 -- from k on. Assumes nothing.
 use Prim.Native.Nat.{_-_}
-use mathlib.Core.Path.{refl}
 use lib.ListN.{length}
-use Rattle.codec.proofs.Moves.{FilledTo, filled-more, filled-all}
+use Rattle.codec.proofs.Fills.{FilledTo, filled-none, filled-more, filled-all}
 use native.Mathlib.Omega.{arith}
 use Rattle.codec.proofs.clear_words.Statement.{statement}
 use Rattle.codec.proofs.clear_words.Tie as tie
@@ -15,7 +14,7 @@ abbrev μ-loop : tie.MeasureT-loop
 μ-loop s₀ k₀ s k = length s₀ - k
 
 loop-holds : tie.Need-loop-holds Inv-loop μ-loop
-loop-holds c = (omega arith, (refl, refl))
+loop-holds c = filled-none _ _ (omega arith)
 
 mul-s : tie.Need-mul-s Inv-loop μ-loop
 mul-s c = omega arith

@@ -1,41 +1,100 @@
--- `codec::same_bytes` meets its contract: lists of one length are the same where their whole words are and what is left is.
--- Assumes nothing.
-use Prim.Native.Nat.{_*_, _/_}
-use mathlib.Core.Path.{sym, ap, _∙_}
-use lib.ListN.{length}
-use Rattle.codec.proofs.Sameness.{same-split, same-of-unequal}
-use borrow.Author.Needs.{needs}
+-- `codec::same_bytes` meets its contract. Invariant: the first `at` bytes are equal. Measure: the bytes from `at` on.
+-- Behind the loop the last eight bytes decide. Assumes nothing.
+use Prim.Native.Nat.{_≤_, _-_, _+_}
+use mathlib.Core.Path.{_≡_, refl, sym, ap, _∙_}
+use lib.ListN.{length, take}
+use Rattle.codec.specs.LittleEndian.{AreBytes}
+use Rattle.codec.proofs.Sameness.{same-of-unequal, same-number-differs, take-more-number, same-last-number}
+use native.Mathlib.Omega.{arith}
 use Rattle.codec.proofs.same_bytes.Statement.{statement}
 use Rattle.codec.proofs.same_bytes.Tie as tie
 
-returns : tie.Need-returns
+abbrev Inv-loop : tie.InvT-loop
+Inv-loop a b n last at₀ at = (at ≤ length a) × (take at a ≡ take at b)
+
+abbrev μ-loop : tie.MeasureT-loop
+μ-loop a b n last at₀ at = length a - at
+
+returns : tie.Need-returns Inv-loop μ-loop
 returns c =
     let a = c .before .before .before .args in
     sym (same-of-unequal (a .a .now) (a .b .now) (λ e. c .if1 .taken (ap length e)))
 
-same-words-requires : tie.Need-same-words-requires
-same-words-requires c κs = search needs
+same-short-requires : tie.Need-same-short-requires Inv-loop μ-loop
+same-short-requires c κs = omega arith
 
-mul-same-rest : tie.Need-mul-same-rest
-mul-same-rest c = search needs
+returns-2 : tie.Need-returns-2 Inv-loop μ-loop
+returns-2 c = c .same-short .ensures
 
-same-rest-requires : tie.Need-same-rest-requires
-same-rest-requires c κs = search needs
+loop-holds : tie.Need-loop-holds Inv-loop μ-loop
+loop-holds c = (omega arith, refl)
 
-returns-2 : tie.Need-returns-2
-returns-2 c =
-    let words = c .before .before in
-    let a = words .before .before .before .before .args in
-    c .same-rest .ensures
-    ∙ sym (same-split (8 * (length (a .a .now) / 8)) (a .a .now) (a .b .now) ∙ rw (sym (words .same-words .ensures) ∙ c .before .if2 .taken))
+get64-requires : tie.Need-get64-requires Inv-loop μ-loop
+get64-requires c κs = omega arith
 
-returns-3 : tie.Need-returns-3
+get64-requires-2 : tie.Need-get64-requires-2 Inv-loop μ-loop
+get64-requires-2 c κs = omega arith
+
+returns-3 : tie.Need-returns-3 Inv-loop μ-loop
 returns-3 c =
-    let words = c .before in
-    let a = words .before .before .before .before .args in
-    sym (same-split (8 * (length (a .a .now) / 8)) (a .a .now) (a .b .now) ∙ rw (sym (words .same-words .ensures) ∙ c .if2 .left))
+    let second = c .before in
+    let first = second .before in
+    let l = first .before .before .loop in
+    let a = first .before .before .before .before .before .before .before .args in
+    sym (same-number-differs 8 (a .a .now) (a .b .now) (l .at) (λ e. c .if3 .taken (first .get64 .ensures ∙ e ∙ sym (second .get642 .ensures))))
+
+add-at : tie.Need-add-at Inv-loop μ-loop
+add-at c = omega arith
+
+loop-less : tie.Need-loop-less Inv-loop μ-loop
+loop-less c = omega arith
+
+loop-again : tie.Need-loop-again Inv-loop μ-loop
+unfolding AreBytes
+loop-again c =
+    let second = c .before in
+    let first = second .before in
+    let l = first .before .before .loop in
+    let known = first .before .before .before .before .before in
+    let a = known .before .before .args in
+    let ha : AreBytes (a .a .now) = λ i. omega (arith, known .before .shared-slice-known .given i) in
+    let hb : AreBytes (a .b .now) = λ i. omega (arith, known .shared-slice-known2 .given i) in
+    let word = sym (first .get64 .ensures) ∙ c .if3 .left ∙ second .get642 .ensures in
+    (omega arith, take-more-number 8 (l .at) (a .a .now) (a .b .now) ha hb (omega arith) (omega arith) (l .inv .1) word)
+
+get64-requires-3 : tie.Need-get64-requires-3 Inv-loop μ-loop
+get64-requires-3 c κs = omega arith
+
+get64-requires-4 : tie.Need-get64-requires-4 Inv-loop μ-loop
+get64-requires-4 c κs = omega arith
+
+returns-4 : tie.Need-returns-4 Inv-loop μ-loop
+unfolding AreBytes
+returns-4 c =
+    let l = c .before .before .before .loop in
+    let known = c .before .before .before .before .before .before in
+    let a = known .before .before .args in
+    let ha : AreBytes (a .a .now) = λ i. omega (arith, known .before .shared-slice-known .given i) in
+    let hb : AreBytes (a .b .now) = λ i. omega (arith, known .shared-slice-known2 .given i) in
+    rw (c .before .get643 .ensures, c .get644 .ensures)
+    (same-last-number 8 _ (l .at) (a .a .now) (a .b .now) ha hb (omega arith) (omega arith) (omega arith) (l .inv .1))
 
 pub same-bytes-spec : {M : Type 1} → statement M
 same-bytes-spec =
     tie.close
-    (tie.spec returns same-words-requires mul-same-rest same-rest-requires returns-2 returns-3)
+    (tie.spec
+    Inv-loop
+    μ-loop
+    returns
+    same-short-requires
+    returns-2
+    loop-holds
+    get64-requires
+    get64-requires-2
+    returns-3
+    add-at
+    loop-less
+    loop-again
+    get64-requires-3
+    get64-requires-4
+    returns-4)
