@@ -65,8 +65,7 @@ pub fn put64(s: &mut [u8], at: usize, x: u64)
     put32(s, at + 4, high);
 }
 
-// ---- filling: eight bytes a step. The last step ends where the stretch does, and may go over bytes that
-// are filled already.
+// ---- filling: eight bytes a step, and for the odd end the last eight, some of which are filled twice
 
 // Two words of zeros from place `at` on.
 fn fill_two(s: &mut [u8], at: usize)
@@ -123,7 +122,8 @@ fn fill_short(s: &mut [u8])
     s[0] = 0;
 }
 
-// The last eight bytes first: the compiler makes memset of the loop, and so it need not come back from it.
+// The last eight bytes go first: the compiler makes a call of memset of the loop, and with nothing behind
+// it the call need not come back.
 pub fn fill_zero(s: &mut [u8])
     ensures { λ _. ⌜ now (s .exit) ≡ zeros (length (now (s .entry))) ⌝ }
 {
@@ -219,7 +219,8 @@ pub fn down_eight(s: &mut [u8])
     }
 }
 
-// ---- comparing: eight bytes a step, since a byte loop that leaves early is not made wider by the compiler
+// ---- comparing: eight bytes a step, since the compiler does not widen a loop that leaves early, and for the
+// odd end the last eight, some of which are compared twice
 
 // Fewer than eight bytes: the first and the last four or two of them, or the one there is.
 fn same_short(a: &[u8], b: &[u8]) -> bool

@@ -4,6 +4,8 @@
 pub mod calls;
 pub mod generate;
 pub mod layout;
+#[cfg(feature = "proved")]
+pub mod lent;
 pub mod limits;
 pub mod listing;
 pub mod log;

@@ -15,6 +15,11 @@ Inv-loop a b n last at₀ at = (at ≤ length a) × (take at a ≡ take at b)
 abbrev μ-loop : tie.MeasureT-loop
 μ-loop a b n last at₀ at = length a - at
 
+-- both are lists of bytes
+both-bytes : (k : tie.After-shared-slice-known2 Inv-loop μ-loop) → let a = k .before .before .args in AreBytes (a .a .now) × AreBytes (a .b .now)
+unfolding AreBytes
+both-bytes k = (λ i. omega (arith, k .before .shared-slice-known .given i), λ i. omega (arith, k .shared-slice-known2 .given i))
+
 returns : tie.Need-returns Inv-loop μ-loop
 returns c =
     let a = c .before .before .before .args in
@@ -50,17 +55,15 @@ loop-less : tie.Need-loop-less Inv-loop μ-loop
 loop-less c = omega arith
 
 loop-again : tie.Need-loop-again Inv-loop μ-loop
-unfolding AreBytes
 loop-again c =
     let second = c .before in
     let first = second .before in
     let l = first .before .before .loop in
     let known = first .before .before .before .before .before in
     let a = known .before .before .args in
-    let ha : AreBytes (a .a .now) = λ i. omega (arith, known .before .shared-slice-known .given i) in
-    let hb : AreBytes (a .b .now) = λ i. omega (arith, known .shared-slice-known2 .given i) in
+    let h = both-bytes known in
     let word = sym (first .get64 .ensures) ∙ c .if3 .left ∙ second .get642 .ensures in
-    (omega arith, take-more-number 8 (l .at) (a .a .now) (a .b .now) ha hb (omega arith) (omega arith) (l .inv .1) word)
+    (omega arith, take-more-number 8 (l .at) (a .a .now) (a .b .now) (h .0) (h .1) (omega arith) (omega arith) (l .inv .1) word)
 
 get64-requires-3 : tie.Need-get64-requires-3 Inv-loop μ-loop
 get64-requires-3 c κs = omega arith
@@ -69,15 +72,13 @@ get64-requires-4 : tie.Need-get64-requires-4 Inv-loop μ-loop
 get64-requires-4 c κs = omega arith
 
 returns-4 : tie.Need-returns-4 Inv-loop μ-loop
-unfolding AreBytes
 returns-4 c =
     let l = c .before .before .before .loop in
     let known = c .before .before .before .before .before .before in
     let a = known .before .before .args in
-    let ha : AreBytes (a .a .now) = λ i. omega (arith, known .before .shared-slice-known .given i) in
-    let hb : AreBytes (a .b .now) = λ i. omega (arith, known .shared-slice-known2 .given i) in
+    let h = both-bytes known in
     rw (c .before .get643 .ensures, c .get644 .ensures)
-    (same-last-number 8 _ (l .at) (a .a .now) (a .b .now) ha hb (omega arith) (omega arith) (omega arith) (l .inv .1))
+    (same-last-number 8 _ (l .at) (a .a .now) (a .b .now) (h .0) (h .1) (omega arith) (omega arith) (omega arith) (l .inv .1))
 
 pub same-bytes-spec : {M : Type 1} → statement M
 same-bytes-spec =

@@ -1,10 +1,11 @@
 //! Makes random lists of calls on the oracle and on the proved store, and compares them byte by byte after
 //! each call: the answer, the numbers, all of the lent memory, the output and the workspace. On memory that the
 //! audit denies, where 01 leaves most answers open, it compares question 1, that a refusal changes nothing, the
-//! bytes no call names, and the audit's own answer.
+//! bytes no call names, and the audit's own answer. Bytes are lent at odd places, others from call to call.
 
 use oracle::calls::{call, damage, last_records, start, Call, Plan};
 use oracle::layout::HEADER_BYTES;
+use oracle::lent::{Lent, STRANGE};
 use oracle::log::log_length;
 use oracle::net_change::output_length;
 use oracle::outset::Place;
@@ -22,9 +23,6 @@ const SEED: u64 = 2055;
 /// Stores near the most records there are: order, page size, records left.
 const ENDS: [(u16, u16, u32); 4] = [(64, 64, 2), (64, 64, 1), (3, 2, 2), (2, 2, 1)];
 
-/// What stands in an output and in a workspace before a call.
-const STRANGE: u8 = 0xA5;
-
 /// What a call answered, and the output and the workspace that it wrote.
 #[derive(Clone, Debug, PartialEq, Eq)]
 enum Answer {
@@ -39,7 +37,7 @@ enum Answer {
 
 /// The answer of a store to a call. The oracle and the proved store have the same calls.
 macro_rules! answer {
-    ($store:expr, $call:expr) => {
+    ($store:expr, $call:expr, $odd:expr) => {
         match $call {
             Call::Fresh(order, page_size, row_limit) => {
                 Answer::Change($store.fresh(order, page_size, row_limit))
@@ -50,13 +48,15 @@ macro_rules! answer {
             Call::Update(time, article, count) => Answer::Change($store.update(time, article, count)),
             Call::Position(t) => Answer::Position($store.position(t)),
             Call::Table(t, length) => {
-                let mut output = vec![STRANGE; length];
-                Answer::Table($store.table(t, &mut output), output)
+                let mut output = Lent::new(&vec![STRANGE; length], $odd);
+                Answer::Table($store.table(t, output.bytes()), output.back())
             }
             Call::View(t) => Answer::View($store.view(t)),
             Call::NetChange(a, b, output, workspace) => {
-                let (mut output, mut workspace) = (vec![STRANGE; output], vec![STRANGE; workspace]);
-                Answer::NetChange($store.net_change(a, b, &mut output, &mut workspace), output, workspace)
+                let mut output = Lent::new(&vec![STRANGE; output], $odd);
+                let mut workspace = Lent::new(&vec![STRANGE; workspace], $odd + 3);
+                let result = $store.net_change(a, b, output.bytes(), workspace.bytes());
+                Answer::NetChange(result, output.back(), workspace.back())
             }
             Call::Keep(t) => Answer::Change($store.keep(t)),
             Call::Drop(t) => Answer::Change($store.drop_file(t)),
@@ -137,26 +137,27 @@ fn compare_list(random: &mut Random) -> Result<(), Difference> {
     let mut next = first;
     for _ in 0..plan.calls {
         calls.push(next);
+        let odd = calls.len();
         let compared = match next {
             Call::Damage(seed) => {
                 damaged = true;
                 damage(&mut oracle, seed);
                 proved = oracle.clone();
-                compare_whole(&mut oracle, &mut proved, Call::Audit)
+                compare_whole(&mut oracle, &mut proved, Call::Audit, odd)
             }
             // these two are promised on any memory
             Call::Fresh(..) | Call::Open => {
                 damaged = false;
-                compare_whole(&mut oracle, &mut proved, next)
+                compare_whole(&mut oracle, &mut proved, next, odd)
             }
-            _ if damaged && !oracle.audit() => compare_denied(&mut oracle, &mut proved, next),
-            _ => compare_whole(&mut oracle, &mut proved, next),
+            _ if damaged && !oracle.audit() => compare_denied(&mut oracle, &mut proved, next, odd),
+            _ => compare_whole(&mut oracle, &mut proved, next, odd),
         };
         compared.map_err(|what| Difference { calls: calls.clone(), what })?;
         next = call(random, &plan, &oracle);
     }
     calls.push(Call::Audit);
-    compare_whole(&mut oracle, &mut proved, Call::Audit).map_err(|what| Difference { calls, what })
+    compare_whole(&mut oracle, &mut proved, Call::Audit, 0).map_err(|what| Difference { calls, what })
 }
 
 /// The list of a store near its last record.
@@ -165,34 +166,43 @@ fn compare_end(order: u16, page_size: u16, left: u32) -> Result<(), Difference> 
     let mut oracle = Store::over(memory);
     let mut proved = oracle.clone();
     for (k, &call) in calls.iter().enumerate() {
-        compare_whole(&mut oracle, &mut proved, call)
+        compare_whole(&mut oracle, &mut proved, call, k)
             .map_err(|what| Difference { calls: calls[..=k].to_vec(), what })?;
     }
     Ok(())
 }
 
 /// The proved store's answer. Numbers and memory are then as it left them.
-fn answer_of_proved(Store { numbers, memory }: &mut Store, call: Call) -> Answer {
+fn answer_of_proved(Store { numbers, memory }: &mut Store, call: Call, odd: usize) -> Answer {
     let Memory { log, index, table, catalogue, areas } = memory;
-    let memory = proved::Memory { log, index, table, entries: catalogue, areas };
+    let (mut lent_log, mut lent_table) = (Lent::new(log, odd), Lent::new(table, odd + 3));
+    let mut lent_areas = Lent::new(areas, odd + 5);
+    let memory = proved::Memory {
+        log: lent_log.bytes(),
+        index,
+        table: lent_table.bytes(),
+        entries: catalogue,
+        areas: lent_areas.bytes(),
+    };
     let mut store = proved::Store { numbers: *numbers, memory };
-    let answer = answer!(store, call);
+    let answer = answer!(store, call, odd);
     *numbers = store.numbers;
+    (*log, *table, *areas) = (lent_log.back(), lent_table.back(), lent_areas.back());
     answer
 }
 
 /// Answer, numbers and memory are the oracle's.
-fn compare_whole(oracle: &mut Store, proved: &mut Store, call: Call) -> Result<(), String> {
-    let (right, got) = (answer!(oracle, call), answer_of_proved(proved, call));
+fn compare_whole(oracle: &mut Store, proved: &mut Store, call: Call, odd: usize) -> Result<(), String> {
+    let (right, got) = (answer!(oracle, call, odd), answer_of_proved(proved, call, odd));
     same("answer", &right, &got)?;
     same("numbers", &oracle.numbers, &proved.numbers)?;
     same_memory(&oracle.memory, &proved.memory)
 }
 
 /// Memory that the audit denies; the oracle goes on from what the proved store left.
-fn compare_denied(oracle: &mut Store, proved: &mut Store, call: Call) -> Result<(), String> {
+fn compare_denied(oracle: &mut Store, proved: &mut Store, call: Call, odd: usize) -> Result<(), String> {
     let before = oracle.clone();
-    let got = answer_of_proved(proved, call);
+    let got = answer_of_proved(proved, call, odd);
     if call == Call::Audit {
         same("audit", &Answer::Audit(false), &got)?;
     } else {
