@@ -7,7 +7,7 @@ use lib.ListN.{length, take, drop, set, length-set, length-replicate, replicate-
 use lib.Seq.{length-take-le, take-at, drop-at, drop-drop}
 use borrow.Author.Fill.{fill-more}
 use Rattle.codec.specs.Parts.{zeros, put}
-use Rattle.codec.proofs.PartLaws.{length-put, drop-replicate}
+use Rattle.codec.proofs.PartLaws.{length-put, put-one, drop-replicate}
 
 -- s is s₀ with the first i places filled
 abbrev pub FilledTo : List ℕ → List ℕ → ℕ → Type 0
@@ -49,6 +49,10 @@ filled-put s₀ i at k {s} f h g l =
     let joined : zeros at ++ (zeros k ++ tail) ≡ zeros (at + k) ++ tail = sym (append-assoc (zeros at) (zeros k) tail) ∙ rw (zeros-join at k (at + k) refl) in
     (omega arith, (m ∙ f .1 .0, rw (n, filled-front s₀ i at f h, filled-rest s₀ i (at + k) f g) joined))
 
+-- one zero, the same
+pub filled-set : (s₀ : List ℕ) (i at : ℕ) {s : List ℕ} → FilledTo s₀ s i → at ≤ i → i ≤ at + 1 → at < length s → FilledTo s₀ (set s at 0) (at + 1)
+filled-set s₀ i at {s} f h g l = rw (← put-one s at 0 l) (filled-put s₀ i at 1 f h g (omega arith))
+
 -- ---- all
 
 pub filled-all : (s₀ : List ℕ) (i : ℕ) {s : List ℕ} → FilledTo s₀ s i → length s ≤ i → s ≡ zeros (length s₀)
@@ -63,6 +67,14 @@ filled-ends s₀ at k n h =
     let m : length (put s₀ 0 (zeros k)) ≡ length s₀ = first .1 .0 in
     let second : FilledTo s₀ (put (put s₀ 0 (zeros k)) at (zeros k)) (at + k) = filled-put s₀ (0 + k) at k first (omega arith) (omega arith) (omega arith) in
     filled-all s₀ (at + k) second (rw (second .1 .0) (omega arith))
+
+-- three places one by one, some of which may be the same
+pub filled-three : (s₀ : List ℕ) (i j k : ℕ) → i ≡ 0 → j ≤ 1 → j ≤ k → k ≤ j + 1 → k + 1 ≡ length s₀ → set (set (set s₀ i 0) j 0) k 0 ≡ zeros (length s₀)
+filled-three s₀ i j k first low mid high n =
+    let a : FilledTo s₀ (set s₀ i 0) (i + 1) = filled-set s₀ 0 i (filled-none s₀ 0 refl) (omega arith) (omega arith) (omega arith) in
+    let b : FilledTo s₀ (set (set s₀ i 0) j 0) (j + 1) = filled-set s₀ (i + 1) j a (omega arith) (omega arith) (simp length-set (omega arith)) in
+    let c : FilledTo s₀ (set (set (set s₀ i 0) j 0) k 0) (k + 1) = filled-set s₀ (j + 1) k b (omega arith) (omega arith) (simp length-set (omega arith)) in
+    filled-all s₀ (k + 1) c (simp length-set (omega arith))
 
 -- the last k places, from any of them on
 ends-rest : (s₀ : List ℕ) (i at k : ℕ) → at + k ≡ length s₀ → at ≤ i → drop i (put s₀ at (zeros k)) ≡ zeros (k - (i - at))

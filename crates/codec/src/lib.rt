@@ -85,7 +85,7 @@ fn fill_four(s: &mut [u8], at: usize)
     fill_two(s, at + 16);
 }
 
-// At most 64 bytes: the first and the last 32, 16, 8, 4 or 2 of them, or the one there is.
+// At most 64 bytes: the first and the last 32, 16, 8 or 4 of them, or up to three, one by one.
 fn fill_short(s: &mut [u8])
     requires { ⌜ length (now s) ≤ 64 ⌝ }
     ensures { λ _. ⌜ now (s .exit) ≡ zeros (length (now (s .entry))) ⌝ }
@@ -114,12 +114,9 @@ fn fill_short(s: &mut [u8])
         put32(s, n - 4, 0);
         return;
     }
-    if 2 <= n {
-        put16(s, 0, 0);
-        put16(s, n - 2, 0);
-        return;
-    }
     s[0] = 0;
+    s[n / 2] = 0;
+    s[n - 1] = 0;
 }
 
 // The last eight bytes go first: the compiler makes a call of memset of the loop, and with nothing behind

@@ -3,7 +3,7 @@ use Prim.Native.Nat.{_-_}
 use mathlib.Core.Path.{refl, _∙_}
 use lib.ListN.{length, length-set}
 use Rattle.codec.proofs.Numbers.{bytes-zero}
-use Rattle.codec.proofs.Fills.{filled-none, filled-more, filled-all, filled-ends}
+use Rattle.codec.proofs.Fills.{filled-none, filled-all, filled-ends, filled-three}
 use borrow.Author.Needs.{needs}
 use native.Mathlib.Omega.{arith}
 use Rattle.codec.proofs.fill_short.Statement.{statement}
@@ -78,32 +78,25 @@ returns-5 c =
     let xs = first .before .before .before .before .before .before .before .before .args .s .now in
     second .put322 .ensures ∙ rw (first .put32 .ensures, bytes-zero 4) (filled-ends xs (length xs - 4) 4 (omega arith) (omega arith))
 
-put16-requires : tie.Need-put16-requires
-put16-requires c κs = search needs
-
-put16-requires-2 : tie.Need-put16-requires-2
-put16-requires-2 c κs = search needs
-
-same-length-5 : tie.Need-same-length-5
-same-length-5 c = search needs
-
-returns-6 : tie.Need-returns-6
-returns-6 c =
-    let second = c .before .before in
-    let first = second .before .before .before .before in
-    let xs = first .before .before .before .before .before .before .before .before .before .args .s .now in
-    second .put162 .ensures ∙ rw (first .put16 .ensures, bytes-zero 2) (filled-ends xs (length xs - 2) 2 (omega arith) (omega arith))
-
 slice-write-s : tie.Need-slice-write-s
 slice-write-s c = search needs
 
-same-length-6 : tie.Need-same-length-6
-same-length-6 c = search needs
+slice-write-s-2 : tie.Need-slice-write-s-2
+slice-write-s-2 c = simp length-set (omega arith)
 
-returns-7 : tie.Need-returns-7
-returns-7 c =
-    let xs = c .before .before .before .before .before .before .before .args .s .now in
-    filled-all xs 1 (filled-more xs 0 (filled-none xs 0 refl) (omega arith)) (simp length-set (omega arith))
+sub-s : tie.Need-sub-s
+sub-s c = omega arith
+
+slice-write-s-3 : tie.Need-slice-write-s-3
+slice-write-s-3 c = simp length-set (omega arith)
+
+same-length-5 : tie.Need-same-length-5
+same-length-5 c = simp length-set
+
+returns-6 : tie.Need-returns-6
+returns-6 c =
+    let xs = c .before .before .before .before .before .before .args .s .now in
+    filled-three xs _ _ _ (omega arith) (omega arith) (omega arith) (omega arith) (omega arith)
 
 pub fill-short-spec : {M : Type 1} → statement M
 fill-short-spec =
@@ -126,10 +119,9 @@ fill-short-spec =
     put32-requires-2
     same-length-4
     returns-5
-    put16-requires
-    put16-requires-2
-    same-length-5
-    returns-6
     slice-write-s
-    same-length-6
-    returns-7)
+    slice-write-s-2
+    sub-s
+    slice-write-s-3
+    same-length-5
+    returns-6)
