@@ -5,7 +5,6 @@ use mathlib.Core.List.{List, _++_, append-assoc, append-nil}
 use native.Mathlib.Omega.{arith}
 use lib.ListN.{length, take, drop, set, length-set, length-replicate, replicate-append-replicate, drop-of-length-le}
 use lib.Seq.{length-take-le, take-at, drop-at, drop-drop}
-use borrow.Author.Fill.{fill-more}
 use Rattle.codec.specs.Parts.{zeros, put}
 use Rattle.codec.proofs.PartLaws.{length-put, put-one, drop-replicate}
 
@@ -21,10 +20,6 @@ zeros-join i j n e = replicate-append-replicate i j 0 ∙ ap zeros e
 -- no place
 pub filled-none : (s₀ : List ℕ) (i : ℕ) → i ≡ 0 → FilledTo s₀ s₀ i
 filled-none s₀ i e = rw e (omega arith, (refl, refl))
-
--- one place
-pub filled-more : (s₀ : List ℕ) (i : ℕ) {s : List ℕ} → FilledTo s₀ s i → i < length s → FilledTo s₀ (set s i 0) (i + 1)
-filled-more s₀ i f h = (simp length-set (omega arith), (simp length-set (f .1 .0), rw (f .1 .1) (fill-more i 0 s₀ (omega arith))))
 
 -- what is filled, up to any place of it
 filled-front : (s₀ : List ℕ) (i at : ℕ) {s : List ℕ} → FilledTo s₀ s i → at ≤ i → take at s ≡ zeros at
@@ -49,7 +44,7 @@ filled-put s₀ i at k {s} f h g l =
     let joined : zeros at ++ (zeros k ++ tail) ≡ zeros (at + k) ++ tail = sym (append-assoc (zeros at) (zeros k) tail) ∙ rw (zeros-join at k (at + k) refl) in
     (omega arith, (m ∙ f .1 .0, rw (n, filled-front s₀ i at f h, filled-rest s₀ i (at + k) f g) joined))
 
--- one zero, the same
+-- one place, the same
 pub filled-set : (s₀ : List ℕ) (i at : ℕ) {s : List ℕ} → FilledTo s₀ s i → at ≤ i → i ≤ at + 1 → at < length s → FilledTo s₀ (set s at 0) (at + 1)
 filled-set s₀ i at {s} f h g l = rw (← put-one s at 0 l) (filled-put s₀ i at 1 f h g (omega arith))
 

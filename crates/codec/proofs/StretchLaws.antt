@@ -1,11 +1,11 @@
 -- What comparing and filling come to, place by place (specs/Stretches). Assumes nothing.
-use Prim.Native.Nat.{ℕ, zero, suc, _+_, _-_, _≤_, _<_}
+use Prim.Native.Nat.{ℕ, suc, _+_, _-_, _≤_, _<_}
 use mathlib.Core.Path.{_≡_, refl, sym, ap, _∙_}
 use mathlib.Core.List.{List, [], _∷_}
 use native.Mathlib.Omega.{arith}
 use lib.ListN.{length, getD, length-replicate, getD-replicate}
 use lib.Seq.{getD-drop, getD-take}
-use Rattle.codec.specs.Parts.{zeros, part, put, same}
+use Rattle.codec.specs.Parts.{zeros, part, put}
 use Rattle.codec.specs.Stretches.{EachAgrees, ComparesEach, ZeroedIn, FillsEach}
 use Rattle.codec.proofs.PartLaws.{length-put, part-put, getD-put-before, getD-put-after, put-zeros}
 use Rattle.codec.proofs.Sameness.{same-true, same-of-equal}

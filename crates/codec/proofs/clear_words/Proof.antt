@@ -2,7 +2,7 @@
 -- from k on. Assumes nothing.
 use Prim.Native.Nat.{_-_}
 use lib.ListN.{length}
-use Rattle.codec.proofs.Fills.{FilledTo, filled-none, filled-more, filled-all}
+use Rattle.codec.proofs.Fills.{FilledTo, filled-none, filled-set, filled-all}
 use native.Mathlib.Omega.{arith}
 use Rattle.codec.proofs.clear_words.Statement.{statement}
 use Rattle.codec.proofs.clear_words.Tie as tie
@@ -29,7 +29,9 @@ loop-less : tie.Need-loop-less Inv-loop μ-loop
 loop-less c = omega arith
 
 loop-again : tie.Need-loop-again Inv-loop μ-loop
-loop-again c = filled-more (c .before .before .args .s .now) (c .before .loop .k) (c .before .loop .inv) (omega arith)
+loop-again c =
+    let l = c .before .loop in
+    filled-set (c .before .before .args .s .now) (l .k) (l .k) (l .inv) (omega arith) (omega arith) (omega arith)
 
 same-length : tie.Need-same-length Inv-loop μ-loop
 same-length c = omega arith

@@ -1,4 +1,5 @@
--- `codec::fill_short` meets its contract: the first k bytes and the last k fill a stretch of k to 2 k bytes. Assumes nothing.
+-- `codec::fill_short` meets its contract: the first k bytes and the last k fill a stretch of k to 2 k bytes, and the first, the
+-- middle and the last one a stretch of up to three. Assumes nothing.
 use Prim.Native.Nat.{_-_}
 use mathlib.Core.Path.{refl, _∙_}
 use lib.ListN.{length, length-set}

@@ -1,7 +1,7 @@
 -- `codec::fill_zero` meets its contract. Invariant: the words before `word` are zero, and the rest is as it was where the loop
 -- began, its last eight bytes zero. Measure: the words left. Assumes nothing.
 use Prim.Native.Nat.{_+_, _-_, _*_}
-use mathlib.Core.Path.{_≡_, refl}
+use mathlib.Core.Path.{_≡_}
 use lib.ListN.{length}
 use Rattle.codec.proofs.Numbers.{bytes-zero}
 use Rattle.codec.proofs.Fills.{FilledTo, filled-none, filled-put, filled-last}

@@ -1,6 +1,6 @@
 -- `codec::same_bytes` meets its contract. Invariant: the first `at` bytes are equal. Measure: the bytes from `at` on.
 -- Behind the loop the last eight bytes decide. Assumes nothing.
-use Prim.Native.Nat.{_≤_, _-_, _+_}
+use Prim.Native.Nat.{_≤_, _-_}
 use mathlib.Core.Path.{_≡_, refl, sym, ap, _∙_}
 use lib.ListN.{length, take}
 use Rattle.codec.specs.LittleEndian.{AreBytes}

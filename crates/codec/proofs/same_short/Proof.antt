@@ -1,7 +1,5 @@
 -- `codec::same_short` meets its contract: where the first k bytes agree, the last k decide. Assumes nothing.
-use Prim.Native.Nat.{_-_}
 use mathlib.Core.Path.{refl, sym, _∙_}
-use lib.ListN.{length}
 use lib.Seq.{take-all}
 use Rattle.codec.specs.LittleEndian.{AreBytes}
 use Rattle.codec.proofs.Numbers.{number-one}
