@@ -19,4 +19,5 @@ pub mod Outsets
 pub mod SameLogs
 pub mod FilesHeld
 pub mod ThirdDemands
+pub mod Positions
 pub mod Made

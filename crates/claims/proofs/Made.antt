@@ -2,6 +2,7 @@
 -- definition says, so a list of them leaves what `run` says, and demands 2 and 3 hold of it. Assumes nothing.
 use mathlib.Core.Path.{_≡_, refl, sym, ap, _∙_, subst}
 use mathlib.Core.List.{List}
+use Rattle.model.specs.declared.Position.{Position}
 use Rattle.model.specs.Answers.{Outcome, TableSaid}
 use Rattle.model.specs.Memory.{State}
 use Rattle.model.specs.Starts.{After, after}
@@ -10,12 +11,13 @@ use Rattle.model.specs.Audit.{Audited}
 use Rattle.model.specs.Facts.{InOrder}
 use Rattle.model.specs.Calls.{Start, StartFits, begun, Call, AllFit, Said, changed, positioned, written, viewed, netted, audited, answerOf, step, run, Accepted}
 use Rattle.model.specs.Chains.{Carried, Ran, RanFrom}
-use Rattle.model.specs.Demands.{left, TableIsTimeslice, NetChangeIs, OutsetIsNearest, AnswersOf, CodeKeeps, CodeSameTables}
+use Rattle.model.specs.Demands.{left, PositionTells, TableIsTimeslice, NetChangeIs, OutsetIsNearest, AnswersOf, CodeKeeps, CodeSameTables}
 use Rattle.claims.proofs.Opened.{start-audited}
 use Rattle.claims.proofs.Lists.{step-in-order}
 use Rattle.claims.proofs.SecondDemands.{demand-two}
 use Rattle.claims.proofs.SameLogs.{one-table}
 use Rattle.claims.proofs.ThirdDemands.{demand-three}
+use Rattle.claims.proofs.Positions.{position-tells}
 
 -- ---- one call
 
@@ -55,6 +57,9 @@ ran-from-is {s} {cs} {st} sf cf r =
 
 -- ---- what is answered
 
+position-of : {x y : Outcome Position} → positioned x ≡ positioned y → y ≡ x
+position-of e = cc
+
 table-of : {x y : Written TableSaid} → written x ≡ written y → y ≡ x
 table-of e = cc
 
@@ -68,6 +73,7 @@ answers-of st o =
     let three = demand-three st o in
     record {
       each = λ c said st'. carried-is (o .audited);
+      positions = λ t p st' h k. subst (PositionTells st t) (position-of (carried-is (o .audited) k .0)) (position-tells st (o .audited) t h);
       tables = λ t out table st' h l k.
           let is : tableOf st t out ≡ table = table-of (carried-is (o .audited) k .0) in
           (subst (TableIsTimeslice st t) is (two .tables t out h l), subst (OutsetIsNearest st t) is (three .outsets t out h l));

@@ -4,3 +4,4 @@ pub mod Moves
 pub mod Fills
 pub mod Sameness
 pub mod StretchLaws
+pub mod Searches

@@ -1,3 +1,4 @@
 pub mod LittleEndian
 pub mod Parts
 pub mod Stretches
+pub mod Search

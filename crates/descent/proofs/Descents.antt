@@ -11,6 +11,7 @@ use lib.Arith.{digits-div}
 use Rattle.model.specs.Numbering.{nodes, leafNode, innerNode, nodeWord}
 use Rattle.model.specs.Tree.{Packed, Rising, keysUpTo}
 use Rattle.tree.specs.Levels.{innersOver}
+use Rattle.codec.specs.Search as search
 use Rattle.descent.specs.Ranges.{Cut, Between}
 use Rattle.descent.specs.Descent.{Node, Down, Found, childNode}
 use Rattle.tree.proofs.Numbers.{leaf-in, nodes-mono, leaf-closed, inners-le}
@@ -47,7 +48,7 @@ module _ {d n u under first r : ℕ} (h : Node d n u under first r) where
   node-words = div-lt-iff-lt-mul {k = u} {x = r - 1} {y = d} (h .unit) .1 (omega (arith, h .fits, h .some, mul-comm u d))
 
   -- where the leaves are at most u there is none, and no word of it
-  pub no-node : {xs : List ℕ} {at t : ℕ} → r ≤ u → Cut xs at ((r - 1) / u) t 0
+  pub no-node : {f : ℕ → ℕ} {t : ℕ} → r ≤ u → search.Cut f ((r - 1) / u) t 0
   no-node q =
       let none : (r - 1) / u ≡ 0 = div-eq-of-lt (omega (arith, h .unit)) in
       record { upto = omega arith; before = λ l. absurd (omega arith); after = λ l. absurd (omega arith) }
@@ -119,13 +120,13 @@ module _ {d k n l u under first a r : ℕ} (h : Down d k n (suc l) u under first
             omega (arith, mul-le-mul-right (d - 1) le, h .long);
       }
 
-  -- child j, where j of the separators are at most t
-  module _ {xs : List ℕ} {t j : ℕ} (cut : Cut xs (nodeWord d (first + under)) ((r - 1) / u) t j) where
+  -- child j, one of as many as there are separators and one more
+  module _ {j : ℕ} (upto : j ≤ (r - 1) / u) where
     pub child-inside : j * u < r
-    child-inside = omega (arith, le-div-iff-mul-le {k = u} {x = j} {y = r - 1} pos .0 (cut .upto), h .some)
+    child-inside = omega (arith, le-div-iff-mul-le {k = u} {x = j} {y = r - 1} pos .0 upto, h .some)
 
     child-is : childNode first under j ≡ leafNode d (a + j * u)
-    child-is = child-number j (omega (arith, cut .upto, node-words down-node))
+    child-is = child-number j (omega (arith, upto, node-words down-node))
 
     pub child-small : first + j * under + 1 ≤ 131073
     child-small = omega (arith, child-is, leaf-double (a + j * u), child-inside, leaves-few)
@@ -152,28 +153,29 @@ module _ {d k n l u under first a r : ℕ} (h : Down d k n (suc l) u under first
           long = le-trans (mul-le-mul-right (d - 1) mono) (h .long);
         }
 
-    -- what the child finds is what the node finds
-    pub found-child : {c : ℕ} → Found xs d k t (a + j * u) (min u (r - j * u)) c → Found xs d k t a r c
-    found-child {c} f = record { within = f .within; counts = counts }
-      where
-        counts : (keys : List ℕ) → length keys ≡ k → Rising keys → Packed (nodeWord d) d keys xs → Between keys (d - 1) t a r → c ≡ keysUpTo keys t
-        counts keys e rising p bt =
-            f .counts keys e rising p
-            (between-child keys xs (d - 1) t a r u (nodeWord d (first + under)) j (omega (arith, h .order-low)) pos rising words cut bt)
-          where
-            at-l : (i : ℕ) → i < (r - 1) / d ^ l → i < d - 1
-                → getD xs (nodeWord d (first + under) + i) 0 ≡ getD keys ((a + d ^ l + i * d ^ l) * (d - 1) - 1) 0
-            at-l i q b =
-                let s : suc i * d ^ l ≤ r - 1 = le-div-iff-mul-le {k = d ^ l} {x = suc i} {y = r - 1} (rw unit at pos) .0 q in
-                let m : a + d ^ l + i * d ^ l + 1 ≤ a + r = omega (arith, h .some) in
-                let there : (a + d ^ l + i * d ^ l) * (d - 1) < length keys = omega (arith, mul-le-mul-right (d - 1) m, bt .there) in
-                let node : innerNode d (a + d ^ l) ≡ first + under = omega (arith, rw unit at node-number) in
-                let w = separators-at (nodeWord d) d (h .order-low) keys xs (by-leaf (nodeWord d) d (h .order-low) keys xs p) l (h .block) i b in
-                rw (← node) ((rw (← h .border) at w) there)
+  -- where j of the separators are at most t, what child j finds is what the node finds
+  pub found-child : {xs : List ℕ} {t j c : ℕ} → Cut xs (nodeWord d (first + under)) ((r - 1) / u) t j → Found xs d k t (a + j * u) (min u (r - j * u)) c
+      → Found xs d k t a r c
+  found-child {xs} {t} {j} {c} cut f = record { within = f .within; counts = counts }
+    where
+      counts : (keys : List ℕ) → length keys ≡ k → Rising keys → Packed (nodeWord d) d keys xs → Between keys (d - 1) t a r → c ≡ keysUpTo keys t
+      counts keys e rising p bt =
+          f .counts keys e rising p
+          (between-child keys xs (d - 1) t a r u (nodeWord d (first + under)) j (omega (arith, h .order-low)) pos rising words cut bt)
+        where
+          at-l : (i : ℕ) → i < (r - 1) / d ^ l → i < d - 1
+              → getD xs (nodeWord d (first + under) + i) 0 ≡ getD keys ((a + d ^ l + i * d ^ l) * (d - 1) - 1) 0
+          at-l i q b =
+              let s : suc i * d ^ l ≤ r - 1 = le-div-iff-mul-le {k = d ^ l} {x = suc i} {y = r - 1} (rw unit at pos) .0 q in
+              let m : a + d ^ l + i * d ^ l + 1 ≤ a + r = omega (arith, h .some) in
+              let there : (a + d ^ l + i * d ^ l) * (d - 1) < length keys = omega (arith, mul-le-mul-right (d - 1) m, bt .there) in
+              let node : innerNode d (a + d ^ l) ≡ first + under = omega (arith, rw unit at node-number) in
+              let w = separators-at (nodeWord d) d (h .order-low) keys xs (by-leaf (nodeWord d) d (h .order-low) keys xs p) l (h .block) i b in
+              rw (← node) ((rw (← h .border) at w) there)
 
-            words : (i : ℕ) → i < (r - 1) / u
-                → getD xs (nodeWord d (first + under) + i) 0 ≡ getD keys ((a + u + i * u) * (d - 1) - 1) 0
-            words i q = rw unit (at-l i (rw unit at q) (omega (arith, node-words down-node)))
+          words : (i : ℕ) → i < (r - 1) / u
+              → getD xs (nodeWord d (first + under) + i) 0 ≡ getD keys ((a + u + i * u) * (d - 1) - 1) 0
+          words i q = rw unit (at-l i (rw unit at q) (omega (arith, node-words down-node)))
 
 -- a level that is not 0
 pub raised : {d k n level u under first a r : ℕ} → 0 < level → Down d k n level u under first a r → Down d k n (suc (level - 1)) u under first a r

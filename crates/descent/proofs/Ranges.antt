@@ -8,26 +8,9 @@ use native.Mathlib.Omega.{arith}
 use native.Mathlib.Nat.{le-trans, le-of-lt, lt-of-lt-of-le, add-zero, mul-le-mul-right, le-div-iff-mul-le, div-lt-iff-lt-mul, zero-mul}
 use lib.ListN.{length, getD}
 use Rattle.model.specs.Tree.{Rising, keysUpTo}
-use Rattle.descent.specs.Ranges.{Bracket, Cut, Between}
+use Rattle.descent.specs.Ranges.{Cut, Between}
 use Rattle.tree.proofs.Orders.{le-or-lt}
 use Rattle.descent.proofs.Counts.{count-is}
-
--- ---- a cut by rungs, in any words: k words more are passed, or not
-module _ {words : List ℕ} {at c t low : ℕ} (k : ℕ) (one : 0 < k) where
-  pub bracket-up : low + k ≤ c → getD words (at + (low + k - 1)) 0 ≤ t → Bracket words at c t low (2 * k - 1) → Bracket words at c t (low + k) (k - 1)
-  bracket-up l h b =
-      let e : low + k + (k - 1) ≡ low + (2 * k - 1) = omega arith in
-      record { upto = l; before = λ _. h; after = rw e (b .after) }
-
-  pub bracket-down : t < getD words (at + (low + k - 1)) 0 → Bracket words at c t low (2 * k - 1) → Bracket words at c t low (k - 1)
-  bracket-down h b =
-      let e : low + k - 1 ≡ low + (k - 1) = omega arith in
-      record { upto = b .upto; before = b .before; after = λ _. rw e at h }
-
-pub bracket-end : {words : List ℕ} {at c t low : ℕ} → Bracket words at c t low 0 → Cut words at c t low
-bracket-end {low = low} b =
-    let e : low + 0 ≡ low = omega arith in
-    record { upto = b .upto; before = b .before; after = rw e at (b .after) }
 
 -- ---- one node: separators u leaves apart, of which j are at most t
 module _ (keys xs : List ℕ) (w t a r u n j : ℕ) (one : 0 < w) (pos : 0 < u) (rising : Rising keys)

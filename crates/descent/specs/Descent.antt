@@ -6,7 +6,7 @@ use mathlib.Core.Path.{_≡_}
 use mathlib.Core.List.{List}
 use lib.ListN.{length}
 use Rattle.model.specs.Numbering.{nodes, leafNode, nodeWord}
-use Rattle.model.specs.Tree.{Packed, Rising, keysUpTo, pagePosition}
+use Rattle.model.specs.Tree.{Packed, Rising, keysUpTo}
 use Rattle.tree.specs.Levels.{innersOver}
 use Rattle.descent.specs.Ranges.{Between}
 
@@ -56,9 +56,7 @@ pub record Found (index : List ℕ) (d k t a r c : ℕ) : Type 0 where
   pub within : c ≤ k
   pub counts : (keys : List ℕ) → length keys ≡ k → Rising keys → Packed (nodeWord d) d keys index → Between keys (d - 1) t a r → c ≡ keysUpTo keys t
 
--- p is the page position of t, if the index holds the packed tree of k rising keys; on any words it is one of
--- the k positions, or 0
-pub record Position (index : List ℕ) (d k t p : ℕ) : Type 0 where
-  pub packed : (keys : List ℕ) → length keys ≡ k → Rising keys → Packed (nodeWord d) d keys index → p ≡ pagePosition keys t
-  pub within : p ≤ k
-  pub inside : 0 < k → p < k
+-- c of the k keys are at most t, if the index holds the packed tree of k rising keys; on any words c is at most k
+pub record Counted (index : List ℕ) (d k t c : ℕ) : Type 0 where
+  pub packed : (keys : List ℕ) → length keys ≡ k → Rising keys → Packed (nodeWord d) d keys index → c ≡ keysUpTo keys t
+  pub within : c ≤ k

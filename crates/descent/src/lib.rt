@@ -1,14 +1,13 @@
-// The search in the packed tree (01, "Packed tree"): the position of a time, found by a recursive descent from node
-// number to node number, the remaining level falling at each call.
+// The search in the packed tree (01, "Packed tree"): how many keys are at most a time, found by a recursive descent from
+// node number to node number, the remaining level falling at each call.
 ghost use mathlib.Core.Path.{_≡_};
 ghost use Prim.Native.Nat.{_+_, _-_, _*_, _/_, _≤_, _<_, _^_};
 ghost use lib.ListN.{length};
 ghost use Rattle.model.specs.Numbering.{nodeWord};
 ghost use Rattle.tree.specs.Levels.{innersOver, Room};
 ghost use Rattle.descent.specs.Ranges.{Bracket, Cut};
-ghost use Rattle.descent.specs.Descent.{Leaf, Node, Down, Found, Position, childNode};
+ghost use Rattle.descent.specs.Descent.{Leaf, Node, Down, Found, Counted, childNode};
 use model::NodeNumber;
-use model::PagePosition;
 
 // A level that is wide enough for all leaves, the leaves below each word there, and the inner nodes over a full run.
 pub struct Top {
@@ -176,18 +175,18 @@ fn top_of(d: u32, n: u32) -> Top
     }
 }
 
-// The position of the page in which the time t lies, in the index of k keys.
-pub fn position(index: &[u64], d: usize, k: usize, t: u64) -> PagePosition
+// How many of the k keys are at most t.
+pub fn keys_up_to(index: &[u64], d: usize, k: usize, t: u64) -> u32
     requires { ⌜ Room d k (length (now index)) ⌝ }
-    ensures { λ r. ⌜ Position (now (index .entry)) d k t (r .0) ⌝ }
+    ensures { λ c. ⌜ Counted (now (index .entry)) d k t c ⌝ }
 {
     if k == 0 {
-        return PagePosition(0);
+        return 0;
     }
     let order = d as u32;
     let n = ((k as u32) + (order - 2)) / (order - 1);
     let top = top_of(order, n);
-    let c = descend(
+    descend(
         &index,
         order,
         k as u32,
@@ -198,9 +197,5 @@ pub fn position(index: &[u64], d: usize, k: usize, t: u64) -> PagePosition
         0,
         n,
         t,
-    );
-    if c == 0 {
-        return PagePosition(0);
-    }
-    PagePosition(c - 1)
+    )
 }

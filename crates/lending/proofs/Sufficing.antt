@@ -8,6 +8,7 @@ use native.Mathlib.Omega.{arith}
 use lib.ListN.{length}
 use lib.Dec.{leb}
 use borrow.Author.Tests.{le-leb, lt-ltb}
+use Rattle.model.specs.declared.Position.{Position}
 use Rattle.model.specs.Answers.{Outcome, answers, refuses, refusesAt, Question, firstNo, unlessNo, TableSaid, OutsetSaid}
 use Rattle.model.specs.Settings.{recordsInRange}
 use Rattle.model.specs.Pages.{indexNeed}
@@ -99,7 +100,7 @@ module _ (d N R n f : ℕ) (l : Lengths) (a : Answered d N R n f l) where
     call (Call.update t x c) h =
         unless changeLacks (firstNo (presentQuestions st t x 2)) _ (unchanged st) refl (supplied Unit (presentQuestions st t x 2) (room 2 h))
     call (Call.position t) h =
-        unless (λ (r : Outcome ℕ). lacking r) (firstNo (timeQuestions st t)) _ refuses refl (supplied ℕ (timeQuestions st t) tt)
+        unless (λ (r : Outcome Position). lacking r) (firstNo (timeQuestions st t)) _ refuses refl (supplied Position (timeQuestions st t) tt)
     call (Call.table t out) h =
         unless (λ (r : Written TableSaid). lacking (r .outcome)) (firstNo (tableQuestions st t out)) _ _ refl
         (supplied TableSaid (tableQuestions st t out) (long 8 (length out) (omega arith), tt))

@@ -13,6 +13,7 @@ pub mod TimeLaws
 pub mod KeyLaws
 pub mod PageCounts
 pub mod PageLaws
+pub mod PositionLaws
 pub mod PromiseLaws
 pub mod AppendLaws
 pub mod RecordLaws

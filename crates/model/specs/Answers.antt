@@ -11,6 +11,7 @@ use Rattle.model.specs.declared.Checked.{Checked}
 use Rattle.model.specs.declared.Checked.the-variants as checked
 use Rattle.model.specs.declared.Verdict.{Verdict}
 use Rattle.model.specs.declared.Verdict.the-variants as verdict
+use Rattle.model.specs.declared.Position.{Position}
 use Rattle.model.specs.declared.PositionAnswer.{PositionAnswer}
 use Rattle.model.specs.declared.PositionAnswer.the-variants as position
 use Rattle.model.specs.declared.Side.{Side}
@@ -78,9 +79,9 @@ unfoldable pub verdictOutcome : Verdict → Outcome Unit
 verdictOutcome verdict.Accepted = answers tt
 verdictOutcome (verdict.Refused why) = refusal why
 
--- the page position
-unfoldable pub positionOutcome : PositionAnswer → Outcome ℕ
-positionOutcome (position.At p) = answers (p .page .0)
+-- page and number of requests
+unfoldable pub positionOutcome : PositionAnswer → Outcome Position
+positionOutcome (position.At p) = answers p
 positionOutcome (position.Refused why) = refusal why
 
 -- "Each table answer gives the number of rows, the side and the page distance"

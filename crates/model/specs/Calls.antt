@@ -5,6 +5,7 @@ use mathlib.Core.Path.{_≡_}
 use mathlib.Core.List.{List, [], _∷_}
 use mathlib.Core.Bool.{Bool}
 use Rattle.codec.specs.LittleEndian.{AreBytes}
+use Rattle.model.specs.declared.Position.{Position}
 use Rattle.model.specs.Answers.{Outcome, answers, TableSaid}
 use Rattle.model.specs.Memory.{Memory, State, Lendable}
 use Rattle.model.specs.Starts.{After, freshOf, openOf}
@@ -51,7 +52,7 @@ step st audit = st
 -- what a call answers, with what it leaves in an output and a workspace of its own
 pub data Said : Type 0 where
   changed : Outcome Unit → Said
-  positioned : Outcome ℕ → Said
+  positioned : Outcome Position → Said
   written : Written TableSaid → Said
   viewed : Viewed → Said
   netted : Netted → Said

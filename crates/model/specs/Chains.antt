@@ -5,6 +5,7 @@ use Prim.Native.Nat.{ℕ, _+_}
 use mathlib.Core.Path.{_≡_}
 use mathlib.Core.List.{List, [], _∷_}
 use mathlib.Core.Bool.{Bool}
+use Rattle.model.specs.declared.Position.{Position}
 use Rattle.model.specs.Answers.{Outcome, answers, TableSaid, OutsetSaid}
 use Rattle.model.specs.Memory.{State}
 use Rattle.model.specs.Starts.{after}
@@ -19,7 +20,7 @@ pub data Carried : State → Call → Said → State → Type 0 where
   insert : {st st' : State} (t a c : ℕ) {o : Outcome Unit} → AppendPromise 1 st o st' (insertOf st t a c) → Carried st (Call.insert t a c) (changed o) st'
   delete : {st st' : State} (t a : ℕ) {o : Outcome Unit} → AppendPromise 1 st o st' (deleteOf st t a) → Carried st (Call.delete t a) (changed o) st'
   update : {st st' : State} (t a c : ℕ) {o : Outcome Unit} → AppendPromise 2 st o st' (updateOf st t a c) → Carried st (Call.update t a c) (changed o) st'
-  position : {st : State} (t : ℕ) {o : Outcome ℕ} → PositionPromise st t o → Carried st (Call.position t) (positioned o) st
+  position : {st : State} (t : ℕ) {o : Outcome Position} → PositionPromise st t o → Carried st (Call.position t) (positioned o) st
   table : {st : State} (t : ℕ) (out : List ℕ) {o : Outcome TableSaid} {out' : List ℕ} → TablePromise st t out o out'
       → Carried st (Call.table t out) (written (record { outcome = o; output = out' })) st
   view : {st : State} (t : ℕ) {o : Outcome OutsetSaid} {rows : List ℕ} → ViewPromise st t o rows

@@ -10,7 +10,8 @@ use lib.ListN.{length, take}
 use lib.Dec.{eqb}
 use Rattle.model.specs.declared.Side.{Side}
 use Rattle.model.specs.declared.Side.the-variants.{Earlier, Later}
-use Rattle.model.specs.Answers.{answers, TableSaid}
+use Rattle.model.specs.declared.Position.{Position}
+use Rattle.model.specs.Answers.{Outcome, answers, TableSaid}
 use Rattle.model.specs.Rows.{Row, hasRow, tableBytes, Ascending}
 use Rattle.model.specs.Timeslice.{InReport}
 use Rattle.model.specs.Numbering.{nodeWord}
@@ -21,11 +22,12 @@ use Rattle.model.specs.declared.Held.{Held}
 use Rattle.model.specs.Outset.{held, measure, earlierFor, laterFor}
 use Rattle.model.specs.NetChange.{Change, netChangeBytes, leads}
 use Rattle.model.specs.Starts.{openOf}
-use Rattle.model.specs.Queries.{Written, Netted, tableOf, rowsAt, netOf}
+use Rattle.model.specs.Positions.{PageAndCount}
+use Rattle.model.specs.Queries.{Written, Netted, positionOf, tableOf, rowsAt, netOf}
 use Rattle.model.specs.Files.{filesOf, isKept, keepOf, dropOf}
 use Rattle.model.specs.Audit.{Audited}
 use Rattle.model.specs.Promises.{isRefused}
-use Rattle.model.specs.Calls.{Start, StartFits, begun, Call, AllFit, Said, written, netted, answerOf, step, run, Accepted, Reachable}
+use Rattle.model.specs.Calls.{Start, StartFits, begun, Call, AllFit, Said, positioned, written, netted, answerOf, step, run, Accepted, Reachable}
 use Rattle.model.specs.Chains.{Carried, RanFrom}
 
 -- the state that a start and a list of calls leave
@@ -179,11 +181,23 @@ pub record ThirdDemand : Type 0 where
   pub same-tables : SameTables
   pub held-since-kept : HeldSinceKept
 
+-- ---- positions (02, wish 5)
+
+-- the call is accepted, and page and count are tied to the log's records
+pub record PositionTells (st : State) (t : ℕ) (o : Outcome Position) : Type 0 where
+  pub said : Position
+  pub answered : o ≡ answers said
+  pub tied : PageAndCount (st .numbers .page) (logOf st) t said
+
+abbrev pub PositionsTell : Type 0
+PositionsTell = AfterEveryList (λ st. (t : ℕ) → t ≤ st .numbers .last → PositionTells st t (positionOf st t))
+
 -- ---- the same of calls that are made, each keeping the promise of its contract
 
--- a call made on st answers what its definition gives and leaves what it says; so demands 2 and 3 hold of the answers
+-- a call made on st answers what its definition gives and leaves what it says; so what is said above holds of the answers
 pub record AnswersOf (st : State) : Type 0 where
   pub each : (c : Call) (said : Said) (st' : State) → Carried st c said st' → (said ≡ answerOf st c) × (st' ≡ step st c)
+  pub positions : (t : ℕ) (o : Outcome Position) (st' : State) → t ≤ st .numbers .last → Carried st (Call.position t) (positioned o) st' → PositionTells st t o
   pub tables : (t : ℕ) (out : List ℕ) (table : Written TableSaid) (st' : State) → t ≤ st .numbers .last → 8 * st .numbers .limit ≤ length out
       → Carried st (Call.table t out) (written table) st' → TableIsTimeslice st t table × OutsetIsNearest st t table
   pub net-changes : (a b : ℕ) (out work : List ℕ) (net : Netted) (st' : State) → a ≤ st .numbers .last → b ≤ st .numbers .last

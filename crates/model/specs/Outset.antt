@@ -11,8 +11,8 @@ use Rattle.model.specs.declared.Side.the-variants.{Earlier, Later}
 use Rattle.model.specs.declared.Held.{Held}
 use Rattle.model.specs.declared.Chosen.{Chosen}
 use Rattle.model.specs.declared.Place.the-variants.{Empty, Area, Current}
-use Rattle.model.specs.Tree.{pagePosition}
-use Rattle.model.specs.Memory.{State, keysOf}
+use Rattle.model.specs.Memory.{State}
+use Rattle.model.specs.Positions.{positionAt}
 
 -- "The empty table of time 0 always counts as held"
 abbrev pub emptyTable : Held
@@ -58,9 +58,9 @@ laterFor st t = earliest t (currentTable st) (filesHeld st)
 abbrev pub apart : ℕ → ℕ → ℕ
 apart x y = max x y - min x y
 
--- what nearness is measured in: page positions
+-- what nearness is measured in: the pages of positions
 abbrev pub measure : State → ℕ → ℕ
-measure st t = pagePosition (keysOf st) t
+measure st t = positionAt st t .page .0
 
 -- the distance of a held table from t
 abbrev pub distance : (ℕ → ℕ) → ℕ → Held → ℕ

@@ -12,6 +12,7 @@ use lib.ListN.{length, drop, getD}
 use lib.Dec.{eqb}
 use Rattle.model.specs.declared.Numbers.{Numbers}
 use Rattle.model.specs.declared.Entry.{Entry}
+use Rattle.model.specs.declared.Position.{Position}
 use Rattle.model.specs.Answers.{Outcome, answers, refuses, refusesAt, Question, firstNo, TableSaid, OutsetSaid}
 use Rattle.model.specs.Numbering.{nodeWord}
 use Rattle.model.specs.Tree.{nodesOf, NodesFrame}
@@ -97,7 +98,7 @@ pub record FilesPromise (files : ℕ) (st : State) (o : Outcome Unit) (st' : Sta
 
 -- ---- position, table, view and net change: all of the store is lent to be read alone
 
-pub record PositionPromise (st : State) (t : ℕ) (o : Outcome ℕ) : Type 0 where
+pub record PositionPromise (st : State) (t : ℕ) (o : Outcome Position) : Type 0 where
   pub asked : Asked st o
   pub audited : (Audited st → o ≡ positionOf st t)
 

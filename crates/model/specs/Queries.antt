@@ -6,13 +6,14 @@ use mathlib.Core.Bool.{_&&_}
 use lib.ListN.{length, take}
 use lib.Dec.{leb}
 use Rattle.codec.specs.Parts.{put, part}
+use Rattle.model.specs.declared.Position.{Position}
 use Rattle.model.specs.declared.Place.{Place}
 use Rattle.model.specs.declared.Place.the-variants.{Empty, Area, Current}
 use Rattle.model.specs.Answers.{Outcome, answers, refuses, Question, question, firstNo, unlessNo, TableSaid, OutsetSaid}
 use Rattle.model.specs.Rows.{Row, tableBytes}
 use Rattle.model.specs.Timeslice.{timeslice}
-use Rattle.model.specs.Tree.{pagePosition}
-use Rattle.model.specs.Memory.{Memory, State, logOf, keysOf, standing}
+use Rattle.model.specs.Memory.{Memory, State, logOf, standing}
+use Rattle.model.specs.Positions.{positionAt}
 use Rattle.model.specs.Outset.{outsetFor}
 use Rattle.model.specs.NetChange.{netChange, netChangeBytes}
 
@@ -29,8 +30,8 @@ rowsAt st t = timeslice t (logOf st)
 abbrev pub timeQuestions : State → ℕ → List Question
 timeQuestions st t = standing st ++ (timeHeld st t ∷ [])
 
-unfoldable pub positionOf : State → ℕ → Outcome ℕ
-positionOf st t = unlessNo (firstNo (timeQuestions st t)) (answers (pagePosition (keysOf st) t)) refuses
+unfoldable pub positionOf : State → ℕ → Outcome Position
+positionOf st t = unlessNo (firstNo (timeQuestions st t)) (answers (positionAt st t)) refuses
 
 -- ---- table
 

@@ -93,8 +93,10 @@ pub enum Verdict {
     Refused(Refusal),
 }
 
+// The position of a time: its page, and how many requests, which are records, are at or before it.
 pub struct Position {
     pub page: PagePosition,
+    pub requests: u32,
 }
 
 pub enum PositionAnswer {

@@ -44,9 +44,13 @@ wrong : changeOut s (verdict.Refused (WrongRecord (record { 0 = 33 }))) ≡ reco
 unfolding changeOut questionOf recordIn refusal
 wrong = refl
 
-placed : positionOut (position.At (record { page = record { 0 = 7 } })) ≡ record { question = 0; page = 7 }
+placed : positionOut (position.At (record { page = record { 0 = 7 }; requests = 15 })) ≡ record { question = 0; page = 7; requests = 15 }
 unfolding positionOut
 placed = refl
+
+unplaced : positionOut (position.Refused TimeAfterLast) ≡ record { question = 12; page = 0; requests = 0 }
+unfolding positionOut questionOf refusal
+unplaced = refl
 
 later : tableOut (table.Table 11 Later 13) ≡ record { question = 0; rows = 11; later = 1; distance = 13 }
 unfolding tableOut laterOf

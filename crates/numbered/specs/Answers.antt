@@ -33,8 +33,8 @@ changeOut s verdict.Accepted = record { numbers = s; question = 0; «record» = 
 changeOut s (verdict.Refused why) = record { numbers = s; question = numberOf why; «record» = recordOf why }
 
 unfoldable pub positionOut : PositionAnswer → YkPosition
-positionOut (position.At p) = record { question = 0; page = p .page .0 }
-positionOut (position.Refused why) = record { question = numberOf why; page = 0 }
+positionOut (position.At p) = record { question = 0; page = p .page .0; requests = p .requests }
+positionOut (position.Refused why) = record { question = numberOf why; page = 0; requests = 0 }
 
 -- 1 for the later side
 unfoldable pub laterOf : Side → ℕ

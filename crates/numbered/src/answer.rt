@@ -22,10 +22,12 @@ pub struct YkChange {
     pub record: u32,
 }
 
+// The answer of a position: the page, and the requests at or before the time.
 #[repr(C)]
 pub struct YkPosition {
     pub question: u8,
     pub page: u32,
+    pub requests: u32,
 }
 
 // The answer of a table; `later` is 1 where the outset used lies at or after the time, else 0.
@@ -127,10 +129,12 @@ pub fn position_out(answer: PositionAnswer) -> YkPosition
         PositionAnswer::At(p) => YkPosition {
             question: 0,
             page: p.page.0,
+            requests: p.requests,
         },
         PositionAnswer::Refused(why) => YkPosition {
             question: question(why),
             page: 0,
+            requests: 0,
         },
     }
 }

@@ -1,6 +1,6 @@
 // The outset used for a time (01, "Count files"): the nearest held table at or before it, or the nearest at or after it where
 // that one is strictly nearer in pages.
-ghost use Prim.Native.Nat.{_≤_};
+ghost use Prim.Native.Nat.{_+_, _*_, _≤_};
 ghost use mathlib.Core.Path.{_≡_};
 ghost use lib.ListN.{length};
 ghost use Rattle.model.specs.Outset as outset;
@@ -20,7 +20,7 @@ pub struct Used {
     pub at: Position,
 }
 
-// The larger less the smaller of two page positions.
+// The larger less the smaller of two positions' pages.
 fn apart(x: Position, y: Position) -> u32
     ensures { λ r. ⌜ r ≡ outset.apart (x .page .0) (y .page .0) ⌝ }
 {
@@ -31,23 +31,25 @@ fn apart(x: Position, y: Position) -> u32
 }
 
 // The position of a time, where that of t is known.
-fn position_of(index: &[u64], s: Numbers, time: u64, t: u64, here: Position) -> Position
+fn position_of(log: &[u8], index: &[u64], s: Numbers, time: u64, t: u64, here: Position) -> Position
     requires { ⌜ Indexed (s .order) (s .page) (s .records) (length (now index)) ⌝ }
-    requires { ⌜ PositionIs (s .order) (s .page) (s .records) t (now index) (here .page .0) ⌝ }
-    ensures { λ r. ⌜ PositionIs (s .order) (s .page) (s .records) time (now (index .entry)) (r .page .0) ⌝ }
+    requires { ⌜ 24 + 24 * s .records ≤ length (now log) ⌝ }
+    requires { ⌜ PositionIs s t (now log) (now index) here ⌝ }
+    ensures { λ r. ⌜ PositionIs s time (now (log .entry)) (now (index .entry)) r ⌝ }
 {
     if time == t {
         return here;
     }
-    pages::position(index, s.order, s.page, s.records, time)
+    pages::position(log, index, s, time)
 }
 
 // The outset used for t, whose position is `here`: the later candidate only where it is strictly nearer.
-pub fn choose(index: &[u64], s: Numbers, c: Catalogue, t: u64, here: Position) -> Used
+pub fn choose(log: &[u8], index: &[u64], s: Numbers, c: Catalogue, t: u64, here: Position) -> Used
     requires { ⌜ Indexed (s .order) (s .page) (s .records) (length (now index)) ⌝ }
-    requires { ⌜ PositionIs (s .order) (s .page) (s .records) t (now index) (here .page .0) ⌝ }
+    requires { ⌜ 24 + 24 * s .records ≤ length (now log) ⌝ }
+    requires { ⌜ PositionIs s t (now log) (now index) here ⌝ }
     requires { ⌜ s .files ≤ 16 ⌝ }
-    ensures { λ r. ⌜ NearestIs s c t (now (index .entry)) r ⌝ }
+    ensures { λ r. ⌜ NearestIs s c t (now (log .entry)) (now (index .entry)) r ⌝ }
 {
     let current = Held {
         time: s.last,
@@ -56,8 +58,8 @@ pub fn choose(index: &[u64], s: Numbers, c: Catalogue, t: u64, here: Position) -
     };
     let early = catalogue::earlier(c, s.files as usize, t);
     let late = catalogue::later(c, s.files as usize, t, current);
-    let before = position_of(index, s, early.time, t, here);
-    let after = position_of(index, s, late.time, t, here);
+    let before = position_of(log, index, s, early.time, t, here);
+    let after = position_of(log, index, s, late.time, t, here);
     let back = apart(here, before);
     let ahead = apart(here, after);
     if ahead < back {

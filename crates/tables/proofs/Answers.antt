@@ -8,8 +8,9 @@ use lib.ListN.{length, take}
 use borrow.Author.Tests.{le-leb, lt-leb}
 use borrow.Rule.Slice.PartMut.{putMid}
 use Rattle.model.specs.declared.Numbers.{Numbers}
+use Rattle.model.specs.declared.Position.{Position}
 use Rattle.model.specs.Answers.{refuses, answers, firstNo}
-use Rattle.model.specs.Memory.{State, logOf, sound}
+use Rattle.model.specs.Memory.{State, sound}
 use Rattle.model.specs.Outset.{outsetFor}
 use Rattle.model.specs.Queries.{positionOf, tableOf, viewOf, rowsPart}
 use Rattle.model.specs.Promises.{isRefused, PositionPromise, TablePromise, ViewPromise}
@@ -39,8 +40,8 @@ module _ (st : State) (t : ℕ) where
   unfolding positionOf firstNo
   position-late q h = record { asked = asked-refused st 12 (rw q) refl; audited = λ a. rw (q, lt-leb _ _ h) }
 
-  pub position-answers : (p : ℕ) → sound st ≡ true → t ≤ st .numbers .last
-      → PositionIs (st .numbers .order) (st .numbers .page) (st .numbers .records) t (st .memory .index) p → PositionPromise st t (answers p)
+  pub position-answers : (p : Position) → sound st ≡ true → t ≤ st .numbers .last → PositionIs (st .numbers) t (st .memory .log) (st .memory .index) p
+      → PositionPromise st t (answers p)
   unfolding positionOf firstNo
   position-answers p q h is = record { asked = asked-answered st p q; audited = λ a. rw (q, le-leb _ _ h) (ap answers (position-of st (audited-facts st a) is)) }
 
@@ -114,7 +115,7 @@ module _ (st : State) (t : ℕ) where
   view-late q h = record { asked = asked-refused st 12 (rw q) refl; audited = λ a. rw (q, lt-leb _ _ h) }
 
   pub view-answers : (c : Catalogue) (u : Used) → sound st ≡ true → t ≤ st .numbers .last → Loaded (st .memory .catalogue) (st .numbers .files) c
-      → NearestIs (st .numbers) c t (st .memory .index) u
+      → NearestIs (st .numbers) c t (st .memory .log) (st .memory .index) u
       → let h = u .chosen .outset in ViewPromise st t (answers (record { place = h .place; rows = h .rows; side = u .chosen .side; distance = u .chosen .distance }))
       (rowsPart (st .numbers .limit) (lent (st .memory .areas) (st .memory .table)) (h .place) (h .rows))
   unfolding viewOf firstNo
@@ -123,6 +124,6 @@ module _ (st : State) (t : ℕ) where
         asked = asked-answered st _ q;
         audited = λ a.
             let f = audited-facts st a in
-            let is : u .chosen ≡ outsetFor st t = near .chosen-is (logOf st) (st .memory .catalogue) (describes st f c has) in
+            let is : u .chosen ≡ outsetFor st t = near .chosen-is (st .memory .catalogue) (describes st f c has) in
             rw (q, le-leb _ _ h, rows-part-lent (st .numbers .limit) (st .memory) (u .chosen .outset .place) (u .chosen .outset .rows), is);
       }

@@ -12,21 +12,23 @@ use lib.Dec.{ltb}
 use Rattle.codec.specs.Parts.{part}
 use Rattle.model.specs.declared.Entry.{Entry}
 use Rattle.model.specs.declared.Held.{Held}
+use Rattle.model.specs.declared.Position.{Position}
 use Rattle.model.specs.declared.Place.the-variants.{Area}
 use Rattle.model.specs.declared.Side.the-variants.{Earlier, Later}
 use Rattle.model.specs.Rows.{Row, rowsBytes, tableBytes}
 use Rattle.model.specs.Timeslice.{timeslice}
 use Rattle.model.specs.Pages.{recordsUpTo}
 use Rattle.model.specs.Numbering.{nodeWord}
-use Rattle.model.specs.Tree.{Packed, pagePosition}
+use Rattle.model.specs.Tree.{Packed}
 use Rattle.model.specs.Memory.{State, logOf, keysOf}
+use Rattle.model.specs.Positions.{positionAt}
 use Rattle.model.specs.Outset.{emptyTable, currentTable, filesFrom, filesHeld, held, distance, measure, earlierFor, laterFor, chosen, chooseBy, outsetFor}
 use Rattle.model.specs.Queries.{rowsPart}
 use Rattle.model.specs.Files.{filesIn}
 use Rattle.model.specs.Facts.{FileIs, FilesAre, AuditedFacts}
 use Rattle.model.proofs.TimeLaws.{timeslice-rows, timeslice-zero}
 use Rattle.model.proofs.UpToLaws.{records-up-to-le}
-use Rattle.model.proofs.KeyLaws.{keys-up-to-later}
+use Rattle.model.proofs.KeyLaws.{page-position-le}
 use Rattle.model.proofs.PageLaws.{length-page-times}
 use Rattle.model.proofs.RecordLaws.{length-records}
 use Rattle.tree.proofs.Written.{with-packed}
@@ -58,18 +60,11 @@ module _ (st : State) (f : AuditedFacts st) where
       let keys = length-page-times (s .page) (omega (arith, f .limits .page-low)) (logOf st) in
       rw (f .index-is) at (with-packed (s .order) (f .limits .order-low) (keysOf st) (st .memory .index) (rw (keys, n) (f .limits .index-long)))
 
-  pub describes : (c : Catalogue) → Loaded (st .memory .catalogue) (st .numbers .files) c → Describes (st .numbers) c (st .memory .index) (logOf st) (st .memory .catalogue)
-  describes c has =
-      record {
-        count-is = length-records (drop 24 (st .memory .log)) (st .numbers .records);
-        log-legal = f .log-legal;
-        packed = index-packed;
-        loaded = has;
-      }
+  pub describes : (c : Catalogue) → Loaded (st .memory .catalogue) (st .numbers .files) c → Describes (st .numbers) c (st .memory .log) (st .memory .index) (st .memory .catalogue)
+  describes c has = record { log-legal = f .log-legal; packed = index-packed; loaded = has }
 
-  pub position-of : {t p : ℕ} → PositionIs (st .numbers .order) (st .numbers .page) (st .numbers .records) t (st .memory .index) p → p ≡ pagePosition (keysOf st) t
-  position-of h =
-      h .position-is (st .numbers .limit) (logOf st) (length-records (drop 24 (st .memory .log)) (st .numbers .records)) (f .log-legal) index-packed
+  pub position-of : {t : ℕ} {p : Position} → PositionIs (st .numbers) t (st .memory .log) (st .memory .index) p → p ≡ positionAt st t
+  position-of h = h .position-is (st .numbers .limit) (f .log-legal) index-packed
 
   -- ---- held tables
 
@@ -124,12 +119,12 @@ module _ (st : State) (f : AuditedFacts st) where
 -- ---- the outset chosen
 
 -- positions never fall
-keys-rise : (st : State) (x y : ℕ) → x ≤ y → measure st x ≤ measure st y
-keys-rise st x y h = omega (arith, keys-up-to-later (keysOf st) x y h)
+pages-rise : (st : State) (x y : ℕ) → x ≤ y → measure st x ≤ measure st y
+pages-rise st = page-position-le (keysOf st)
 
 pub chosen-holds : (st : State) (f : AuditedFacts st) (t : ℕ) → t ≤ st .numbers .last → Holds st (outsetFor st t .outset)
 chosen-holds st f t h =
-    holds-held st f (outsetFor st t .outset) (chosen-held (measure st) (keys-rise st) t (currentTable st) (filesHeld st) h)
+    holds-held st f (outsetFor st t .outset) (chosen-held (measure st) (pages-rise st) t (currentTable st) (filesHeld st) h)
 
 -- the earlier one's records end before those up to t, the later one's after them
 pub chosen-on-side : (st : State) (t : ℕ) → t ≤ st .numbers .last

@@ -1,11 +1,11 @@
 // Builds the trees of every order from 2 to 64 over 2,500 keys, key by key, and compares every word with 01's
-// rule followed by counting, and the position of each key, of the time before and of the time after it with
+// rule followed by counting, and the number of keys up to each key, to the time before and to the time after it with
 // a plain count. It prints how many were wrong, an order to a line.
 ghost use mathlib.Core.Path.{_≡_};
 ghost use Prim.Native.Nat.{_+_, _*_, _≤_, _<_};
 ghost use lib.ListN.{length};
 ghost use Rattle.tree.specs.Levels.{Room};
-use descent::position;
+use descent::keys_up_to;
 use tree::append;
 use tree::index_words;
 
@@ -212,27 +212,22 @@ fn count_up_to(k: usize, t: u64) -> u64
     n
 }
 
-fn wrong_position(index: &[u64], d: usize, k: usize, t: u64, wrong: u64) -> u64
+fn wrong_count(index: &[u64], d: usize, k: usize, t: u64, wrong: u64) -> u64
     requires { ⌜ Room d k (length (now index)) ⌝ }
 {
-    let c = count_up_to(k, t);
-    let p = position(index, d, k, t);
-    if c == 0 {
-        return tally(wrong, p.0 as u64, 0);
-    }
-    tally(wrong, p.0 as u64, c - 1)
+    tally(wrong, keys_up_to(index, d, k, t) as u64, count_up_to(k, t))
 }
 
-fn wrong_positions(index: &[u64], d: usize, k: usize) -> u64
+fn wrong_counts(index: &[u64], d: usize, k: usize) -> u64
     requires { ⌜ Room d k (length (now index)) ⌝ }
 {
     let mut wrong: u64 = 0;
     let mut i = 0;
     while i < k {
         let t = key(i);
-        wrong = wrong_position(index, d, k, t - 1, wrong);
-        wrong = wrong_position(index, d, k, t, wrong);
-        wrong = wrong_position(index, d, k, t + 1, wrong);
+        wrong = wrong_count(index, d, k, t - 1, wrong);
+        wrong = wrong_count(index, d, k, t, wrong);
+        wrong = wrong_count(index, d, k, t + 1, wrong);
         i += 1;
     }
     wrong
@@ -291,11 +286,11 @@ fn report(d: usize)
     build(&mut index, d, 2500);
     let rest = wrong_rest(&index, d, 2500, words);
     let keys = wrong_words(&index, d, 2500);
-    let positions = wrong_positions(&index, d, 2500);
+    let counts = wrong_counts(&index, d, 2500);
     if rest < 1000000 {
         if keys < 1000000 {
-            if positions < 1000000 {
-                print_line(d as u64, rest + keys + positions);
+            if counts < 1000000 {
+                print_line(d as u64, rest + keys + counts);
             }
         }
     }

@@ -17,7 +17,7 @@ use Rattle.model.specs.Answers.{answers}
 use Rattle.model.specs.Files.{keepOf}
 use Rattle.model.specs.Audit.{auditOf}
 use Rattle.worked.proofs.Computing.{computing}
-use Rattle.worked.proofs.WorkedLog.{worked, entry}
+use Rattle.worked.proofs.WorkedLog.{worked, entry, located}
 use Rattle.worked.proofs.QuestionOne.{numbersOf, full}
 
 -- 01's log with 20 kept: capacity 2, one file, the second area and the third entry foreign
@@ -110,7 +110,7 @@ split-index : split .memory .index ≡ 10 ∷ 10 ∷ 11 ∷ 7 ∷ []
 unfolding computing
 split-index = refl
 
-split-positions : map (positionOf split) (10 ∷ 11 ∷ []) ≡ answers 0 ∷ answers 1 ∷ []
+split-positions : map (positionOf split) (10 ∷ 11 ∷ []) ≡ located 0 1 ∷ located 1 3 ∷ []
 unfolding computing
 split-positions = refl
 

@@ -19,7 +19,7 @@ use Rattle.model.specs.Promises.{isRefused, refusedAmong, Asked}
 use Rattle.model.specs.Calls.{Call, run, changed, positioned, written, viewed, netted, audited, answerOf}
 use Rattle.model.specs.Demands.{heldNext, heldAfter}
 use Rattle.worked.proofs.Computing.{computing}
-use Rattle.worked.proofs.WorkedLog.{workedRecords, worked, table20, table45, change20to45, told, changes, seen}
+use Rattle.worked.proofs.WorkedLog.{workedRecords, worked, located, table20, table45, change20to45, told, changes, seen}
 use Rattle.worked.proofs.WorkedStore.{kept20}
 use Rattle.worked.proofs.QuestionOne.{unsound}
 
@@ -35,7 +35,7 @@ each-answers : map (answerOf roomy)
     (Call.insert 61 3 5 ∷ Call.insert 61 7 5 ∷ Call.delete 61 7 ∷ Call.delete 61 3 ∷ Call.update 61 9 8 ∷ Call.update 60 9 8 ∷ Call.position 35 ∷ Call.position 61
     ∷ Call.table 45 (replicate 33 77) ∷ Call.view 20 ∷ Call.netChange 20 45 (replicate 97 77) (replicate 65 77) ∷ Call.keep 40 ∷ Call.keep 20
     ∷ Call.drop 20 ∷ Call.drop 40 ∷ Call.audit ∷ [])
-    ≡ changed (answers tt) ∷ changed (refuses 7) ∷ changed (answers tt) ∷ changed (refuses 8) ∷ changed (answers tt) ∷ changed (refuses 6) ∷ positioned (answers 1)
+    ≡ changed (answers tt) ∷ changed (refuses 7) ∷ changed (answers tt) ∷ changed (refuses 8) ∷ changed (answers tt) ∷ changed (refuses 6) ∷ positioned (located 1 4)
     ∷ positioned (refuses 12) ∷ written (told 1 Later 1 table45)
     ∷ viewed (seen (Area 0) 2 Earlier 0 (3 ∷ 0 ∷ 0 ∷ 0 ∷ 12 ∷ 0 ∷ 0 ∷ 0 ∷ 7 ∷ 0 ∷ 0 ∷ 0 ∷ 50 ∷ 0 ∷ 0 ∷ 0 ∷ []))
     ∷ netted (changes 3 change20to45 (table20 ++ table45)) ∷ changed (answers tt) ∷ changed (refuses 14) ∷ changed (answers tt) ∷ changed (refuses 16)

@@ -7,6 +7,7 @@ pub mod RowCases
 pub mod QuestionOne
 pub mod StartCases
 pub mod FirstWrongCases
+pub mod PositionCases
 pub mod QuestionCases
 pub mod QueryCases
 pub mod MemoryCases

@@ -18,7 +18,7 @@ use Rattle.model.specs.Queries.{positionOf, tableOf, viewOf, netOf}
 use Rattle.model.specs.Files.{keepOf}
 use Rattle.model.specs.Calls.{keep, drop, run}
 use Rattle.worked.proofs.Computing.{computing}
-use Rattle.worked.proofs.WorkedLog.{workedNumbers, worked, entry, table20, seen}
+use Rattle.worked.proofs.WorkedLog.{workedNumbers, worked, entry, located, table20, seen}
 use Rattle.worked.proofs.QuestionOne.{numbersOf, pair}
 
 -- ---- 17 and fresh store
@@ -167,6 +167,10 @@ none-table : tableOf none 0 (replicate 9 3) ≡ record { outcome = answers (reco
 unfolding computing
 none-table = refl
 
-none-others : (positionOf none 0 ∷ positionOf none 1 ∷ netOf none 0 0 (replicate 24 3) (replicate 16 3) .outcome ∷ []) ≡ answers 0 ∷ refuses 12 ∷ answers 0 ∷ []
+none-positions : (positionOf none 0 ∷ positionOf none 1 ∷ []) ≡ located 0 0 ∷ refuses 12 ∷ []
 unfolding computing
-none-others = refl
+none-positions = refl
+
+none-net : netOf none 0 0 (replicate 24 3) (replicate 16 3) .outcome ≡ answers 0
+unfolding computing
+none-net = refl

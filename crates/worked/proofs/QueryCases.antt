@@ -9,7 +9,7 @@ use Rattle.model.specs.Answers.{answers, refuses, TableSaid}
 use Rattle.model.specs.Memory.{State}
 use Rattle.model.specs.Queries.{timeQuestions, positionOf, Written, tableQuestions, tableOf, Viewed, viewOf, Netted, netQuestions, netOf}
 use Rattle.worked.proofs.Computing.{computing}
-use Rattle.worked.proofs.WorkedLog.{worked}
+use Rattle.worked.proofs.WorkedLog.{worked, located}
 use Rattle.worked.proofs.QuestionOne.{full, unsound}
 use Rattle.worked.proofs.QuestionCases.{noes}
 
@@ -20,7 +20,7 @@ unfolding computing noes
 time-noes = refl
 
 -- 1 12; 12 alone ("Time 61 gives 12"); the last time is answered
-positions : (positionOf unsound 11 ∷ positionOf (full 0 0) 11 ∷ positionOf worked 61 ∷ positionOf (full 0 0) 10 ∷ []) ≡ refuses 1 ∷ refuses 12 ∷ refuses 12 ∷ answers 0 ∷ []
+positions : (positionOf unsound 11 ∷ positionOf (full 0 0) 11 ∷ positionOf worked 61 ∷ positionOf (full 0 0) 10 ∷ []) ≡ refuses 1 ∷ refuses 12 ∷ refuses 12 ∷ located 0 1 ∷ []
 unfolding computing
 positions = refl
 

@@ -8,6 +8,7 @@ use lib.ListN.{replicate}
 use Rattle.codec.specs.Parts.{zeros}
 use Rattle.model.specs.declared.Numbers.{Numbers}
 use Rattle.model.specs.declared.Entry.{Entry}
+use Rattle.model.specs.declared.Position.{Position}
 use Rattle.model.specs.declared.Side.{Side}
 use Rattle.model.specs.declared.Side.the-variants.{Earlier, Later}
 use Rattle.model.specs.declared.Place.{Place}
@@ -60,7 +61,7 @@ data Ask : Type 0 where
 
 -- an outset: what the view hands back, what the table call leaves, and the distances of the two candidates
 data Result : Type 0 where
-  at : Outcome ℕ → Result
+  at : Outcome Position → Result
   written : Written TableSaid → Result
   netted : Netted → Result
   started : Viewed → Written TableSaid → (earlier later : ℕ) → Result
@@ -101,6 +102,9 @@ change20to45 =
     ∷ 12 ∷ 0 ∷ 3 ∷ 0 ∷ 7 ∷ 0 ∷ 0 ∷ 0 ∷ 50 ∷ 0 ∷ 0 ∷ 0
     ∷ 12 ∷ 0 ∷ 2 ∷ 0 ∷ 7 ∷ 0 ∷ 0 ∷ 0 ∷ 44 ∷ 0 ∷ 0 ∷ 0 ∷ zeros 60
 
+abbrev pub located : (page requests : ℕ) → Outcome Position
+located page requests = answers (record { page = record { 0 = page }; requests = requests })
+
 abbrev pub told : ℕ → Side → ℕ → List ℕ → Written TableSaid
 told k side far out = record { outcome = answers (record { rows = k; side = side; distance = far }); output = out ++ (77 ∷ []) }
 
@@ -110,11 +114,11 @@ changes k out work = record { outcome = answers k; output = out ++ (77 ∷ []); 
 abbrev pub seen : Place → ℕ → Side → ℕ → List ℕ → Viewed
 seen place k side far part = record { outcome = answers (record { place = place; rows = k; side = side; distance = far }); rows = part }
 
--- each marked P in 01
+-- each marked P in 01, a position with its requests
 cases : List Case
 cases =
-    case (position 0) (at (answers 0)) ∷ case (position 29) (at (answers 0)) ∷ case (position 30) (at (answers 1))
-    ∷ case (position 35) (at (answers 1)) ∷ case (position 40) (at (answers 2)) ∷ case (position 60) (at (answers 3))
+    case (position 0) (at (located 0 0)) ∷ case (position 29) (at (located 0 2)) ∷ case (position 30) (at (located 1 4))
+    ∷ case (position 35) (at (located 1 4)) ∷ case (position 40) (at (located 2 5)) ∷ case (position 60) (at (located 3 8))
     ∷ case (tableFor 20) (written (told 2 Earlier 0 table20))
     ∷ case (tableFor 30) (written (told 2 Earlier 1 table30))
     ∷ case (tableFor 45) (written (told 1 Later 1 table45))

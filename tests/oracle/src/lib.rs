@@ -13,6 +13,7 @@ pub mod net_change;
 pub mod outset;
 #[cfg(feature = "proved")]
 pub mod plain;
+pub mod position;
 #[cfg(feature = "proved")]
 pub mod proved;
 pub mod random;

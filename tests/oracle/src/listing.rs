@@ -27,7 +27,7 @@ fn lines(input: &[u8]) -> Result<String, Refusal> {
     let mut output = vec![0; table_length(store.numbers.row_limit)];
     let mut lines = String::new();
     for time in request_times(&store.records()) {
-        let page = store.position(time)?;
+        let page = store.position(time)?.page;
         let answer = store.table(time, &mut output)?;
         let side = match answer.side {
             Side::Earlier => "E",

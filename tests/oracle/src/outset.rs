@@ -1,6 +1,6 @@
 //! Held times and the choice of an outset (01, "Count files"; report section 5.3).
 
-use crate::tree::page_position;
+use crate::position::Position;
 
 /// One entry of the catalogue, laid out as C has it, so that a list of them can be lent to C.
 #[repr(C)]
@@ -51,8 +51,8 @@ pub fn held(files: &[Entry], last: u64) -> Vec<Held> {
 }
 
 /// "The larger less the smaller of two page positions, that of t and that of the outset's time."
-pub fn page_distance(keys: &[u64], outset_time: u64, t: u64) -> u32 {
-    page_position(keys, outset_time).abs_diff(page_position(keys, t))
+pub fn page_distance(outset: Position, wanted: Position) -> u32 {
+    outset.page.abs_diff(wanted.page)
 }
 
 /// The nearest held time ≤ t: 0 or a count file, never the current table.
@@ -74,12 +74,14 @@ pub fn later_candidate(files: &[Entry], last: u64, t: u64) -> Held {
         .unwrap()
 }
 
-/// "The later one is used only if its page distance is strictly smaller." Asked for t ≤ last only.
-pub fn choose(keys: &[u64], files: &[Entry], last: u64, t: u64) -> Outset {
+/// "The later one is used only if its page distance is strictly smaller." Asked for t ≤ last only;
+/// `position` is that of the log.
+pub fn choose(position: impl Fn(u64) -> Position, files: &[Entry], last: u64, t: u64) -> Outset {
     let earlier = earlier_candidate(files, last, t);
     let later = later_candidate(files, last, t);
-    let before = page_distance(keys, earlier.time, t);
-    let after = page_distance(keys, later.time, t);
+    let wanted = position(t);
+    let before = page_distance(position(earlier.time), wanted);
+    let after = page_distance(position(later.time), wanted);
     if after < before {
         Outset { held: later, side: Side::Later, distance: after }
     } else {

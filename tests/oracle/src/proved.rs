@@ -5,6 +5,7 @@ mod answers;
 mod c;
 
 use crate::outset::{Entry, Place};
+use crate::position::Position;
 use crate::store::{Numbers, Refusal, TableAnswer, View};
 
 /// The lent memory.
@@ -60,7 +61,7 @@ impl<'a> Store<'a> {
         let Memory { log, index, table, entries, areas } = &mut self.memory;
         let answer = unsafe {
             c::yk_insert(
-                self.numbers.into(),
+                self.numbers,
                 log.as_mut_ptr(), log.len(), index.as_mut_ptr(), index.len(), table.as_mut_ptr(), table.len(),
                 entries.as_ptr(), entries.len(), areas.as_ptr(), areas.len(),
                 time, article, count,
@@ -73,7 +74,7 @@ impl<'a> Store<'a> {
         let Memory { log, index, table, entries, areas } = &mut self.memory;
         let answer = unsafe {
             c::yk_delete(
-                self.numbers.into(),
+                self.numbers,
                 log.as_mut_ptr(), log.len(), index.as_mut_ptr(), index.len(), table.as_mut_ptr(), table.len(),
                 entries.as_ptr(), entries.len(), areas.as_ptr(), areas.len(),
                 time, article,
@@ -86,7 +87,7 @@ impl<'a> Store<'a> {
         let Memory { log, index, table, entries, areas } = &mut self.memory;
         let answer = unsafe {
             c::yk_update(
-                self.numbers.into(),
+                self.numbers,
                 log.as_mut_ptr(), log.len(), index.as_mut_ptr(), index.len(), table.as_mut_ptr(), table.len(),
                 entries.as_ptr(), entries.len(), areas.as_ptr(), areas.len(),
                 time, article, count,
@@ -95,12 +96,11 @@ impl<'a> Store<'a> {
         self.take_up(answer)
     }
 
-    /// The page position of t.
-    pub fn position(&self, t: u64) -> Result<u32, Refusal> {
+    pub fn position(&self, t: u64) -> Result<Position, Refusal> {
         let Memory { log, index, table, entries, areas } = &self.memory;
         let answer = unsafe {
             c::yk_position(
-                self.numbers.into(),
+                self.numbers,
                 log.as_ptr(), log.len(), index.as_ptr(), index.len(), table.as_ptr(), table.len(),
                 entries.as_ptr(), entries.len(), areas.as_ptr(), areas.len(),
                 t,
@@ -114,7 +114,7 @@ impl<'a> Store<'a> {
         let Memory { log, index, table, entries, areas } = &self.memory;
         let answer = unsafe {
             c::yk_table(
-                self.numbers.into(),
+                self.numbers,
                 log.as_ptr(), log.len(), index.as_ptr(), index.len(), table.as_ptr(), table.len(),
                 entries.as_ptr(), entries.len(), areas.as_ptr(), areas.len(),
                 t, output.as_mut_ptr(), output.len(),
@@ -128,7 +128,7 @@ impl<'a> Store<'a> {
         let Memory { log, index, table, entries, areas } = &self.memory;
         let answer = unsafe {
             c::yk_view(
-                self.numbers.into(),
+                self.numbers,
                 log.as_ptr(), log.len(), index.as_ptr(), index.len(), table.as_ptr(), table.len(),
                 entries.as_ptr(), entries.len(), areas.as_ptr(), areas.len(),
                 t,
@@ -149,7 +149,7 @@ impl<'a> Store<'a> {
         let Memory { log, index, table, entries, areas } = &self.memory;
         let answer = unsafe {
             c::yk_net_change(
-                self.numbers.into(),
+                self.numbers,
                 log.as_ptr(), log.len(), index.as_ptr(), index.len(), table.as_ptr(), table.len(),
                 entries.as_ptr(), entries.len(), areas.as_ptr(), areas.len(),
                 a, b,
@@ -163,7 +163,7 @@ impl<'a> Store<'a> {
         let Memory { log, index, table, entries, areas } = &mut self.memory;
         let answer = unsafe {
             c::yk_keep(
-                self.numbers.into(),
+                self.numbers,
                 log.as_ptr(), log.len(), index.as_ptr(), index.len(), table.as_ptr(), table.len(),
                 entries.as_mut_ptr(), entries.len(), areas.as_mut_ptr(), areas.len(),
                 t,
@@ -177,7 +177,7 @@ impl<'a> Store<'a> {
         let Memory { log, index, table, entries, areas } = &mut self.memory;
         let answer = unsafe {
             c::yk_drop(
-                self.numbers.into(),
+                self.numbers,
                 log.as_ptr(), log.len(), index.as_ptr(), index.len(), table.as_ptr(), table.len(),
                 entries.as_mut_ptr(), entries.len(), areas.as_mut_ptr(), areas.len(),
                 t,
@@ -190,7 +190,7 @@ impl<'a> Store<'a> {
         let Memory { log, index, table, entries, areas } = &self.memory;
         let answer = unsafe {
             c::yk_audit(
-                self.numbers.into(),
+                self.numbers,
                 log.as_ptr(), log.len(), index.as_ptr(), index.len(), table.as_ptr(), table.len(),
                 entries.as_ptr(), entries.len(), areas.as_ptr(), areas.len(),
             )
@@ -200,7 +200,7 @@ impl<'a> Store<'a> {
 
     /// Goes on with the numbers of an answer.
     fn take_up(&mut self, answer: c::YkChange) -> Result<(), Refusal> {
-        self.numbers = answer.numbers.into();
+        self.numbers = answer.numbers;
         answers::change(answer)
     }
 }

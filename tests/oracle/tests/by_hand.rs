@@ -2,7 +2,7 @@
 
 mod common;
 
-use common::{by_hand, fresh, net_change, outset, refused, table, AMPLE, STRANGE};
+use common::{by_hand, fresh, net_change, outset, position, refused, table, AMPLE, STRANGE};
 use oracle::layout::{DELETION, INSERTION};
 use oracle::listing::listing;
 use oracle::log::log_length;
@@ -42,8 +42,18 @@ fn index_words() {
 #[test]
 fn positions() {
     let store = by_hand();
-    let positions: Vec<u32> = [0, 29, 30, 35, 40, 60].iter().map(|&t| store.position(t).unwrap()).collect();
-    assert_eq!(positions, [0, 0, 1, 1, 2, 3]);
+    let pages = [0, 29, 30, 35, 40, 60].map(|t| position(&store, t).0);
+    assert_eq!(pages, [0, 0, 1, 1, 2, 3]);
+}
+
+/// The records' times are 10 20 | 30 30 | 40 50 | 60 60, a page between two bars.
+#[test]
+fn positions_with_their_requests() {
+    let store = by_hand();
+    let before_30 = [0, 9, 10, 19, 20, 29].map(|t| position(&store, t));
+    assert_eq!(before_30, [(0, 0), (0, 0), (0, 1), (0, 1), (0, 2), (0, 2)]);
+    let from_30 = [30, 35, 40, 45, 59, 60].map(|t| position(&store, t));
+    assert_eq!(from_30, [(1, 4), (1, 4), (2, 5), (2, 5), (2, 6), (3, 8)]);
 }
 
 #[test]

@@ -9,6 +9,7 @@ use oracle::layout::Row;
 use oracle::log::{log_length, page_times};
 use oracle::net_change::{leads, net_change, output_length};
 use oracle::outset::{earlier_candidate, held, later_candidate, page_distance, Place, Side};
+use oracle::position::position;
 use oracle::random::Random;
 use oracle::store::{Lengths, Memory, Numbers, Refusal, Store};
 use oracle::table::{table_bytes, table_length, timeslice};
@@ -97,22 +98,22 @@ fn check(random: &mut Random, store: &Store) {
 
 /// The table of t, with its outset checked: every other held one is as far or farther.
 fn table_at(store: &Store, t: u64) -> Vec<Row> {
-    let Numbers { row_limit, last, .. } = store.numbers;
+    let Numbers { page_size, row_limit, last, .. } = store.numbers;
     let mut output = vec![STRANGE; table_length(row_limit)];
     let answer = store.table(t, &mut output).unwrap();
     let rows = timeslice(&store.records(), t);
     assert_eq!(answer.rows as usize, rows.len());
     assert_eq!(output, table_bytes(row_limit, &rows));
 
-    let keys = store.keys();
+    let records = store.records();
+    let distance =
+        |time| page_distance(position(page_size, &records, time), position(page_size, &records, t));
     let used = match answer.side {
         Side::Earlier => earlier_candidate(store.kept(), last, t),
         Side::Later => later_candidate(store.kept(), last, t),
     };
-    assert_eq!(page_distance(&keys, used.time, t), answer.distance);
-    assert!(held(store.kept(), last)
-        .iter()
-        .all(|held| page_distance(&keys, held.time, t) >= answer.distance));
+    assert_eq!(distance(used.time), answer.distance);
+    assert!(held(store.kept(), last).iter().all(|held| distance(held.time) >= answer.distance));
     let view = store.view(t).unwrap();
     assert_eq!((view.side, view.distance), (answer.side, answer.distance));
     let outset_rows = timeslice(&store.records(), used.time);

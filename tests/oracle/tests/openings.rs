@@ -2,7 +2,7 @@
 
 mod common;
 
-use common::{memory_with, refused, strange, wrong_record, AMPLE, STRANGE};
+use common::{memory_with, position, refused, strange, wrong_record, AMPLE, STRANGE};
 use oracle::layout::{Header, Record, DELETION, INSERTION};
 use oracle::limits::MOST_RECORDS;
 use oracle::log::{first_wrong, log_bytes, log_length};
@@ -182,7 +182,7 @@ fn empty_log() {
     let mut store = Store::over(memory);
     store.open().unwrap();
     assert!(store.audit());
-    assert_eq!(store.position(0), Ok(0));
+    assert_eq!(position(&store, 0), (0, 0));
     assert_eq!(refused(store.position(1)), 12);
     assert_eq!(refused(store.keep(0)), 14);
     assert_eq!(refused(store.keep(1)), 12);

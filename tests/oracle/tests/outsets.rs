@@ -6,12 +6,20 @@ use common::{by_hand, fresh, outset, table};
 use oracle::outset::{
     choose, earlier_candidate, held, later_candidate, page_distance, Entry, Held, Place, Side,
 };
+use oracle::position::{position, Position};
+use oracle::samples::{records_of, Request::Insert};
 use oracle::store::View;
 
 /// A view of so many rows, with R = 4: a count file's area takes 32 bytes.
 fn view(place: Place, rows: u32, side: Side, distance: u32) -> View {
     let start = if let Place::File(i) = place { 32 * i } else { 0 };
     View { place, rows, start, length: 8 * rows as usize, side, distance }
+}
+
+/// A position in a log of five pages, N = 2: requests at 10, 15, 20 … 55, keys at 10, 20, 30, 40, 50.
+fn by_fives(t: u64) -> Position {
+    let requests: Vec<_> = (2..=11).map(|k| Insert(5 * k, k as u32, 0)).collect();
+    position(2, &records_of(&requests), t)
 }
 
 #[test]
@@ -80,10 +88,9 @@ fn a_file_at_the_last_time_goes_before_the_current_table() {
 /// current table.
 #[test]
 fn ties() {
-    let keys = [10, 20, 30, 40, 50];
     let file = |time| Entry { time, rows: 0 };
     let chosen = |files: &[Entry], t| {
-        let outset = choose(&keys, files, 55, t);
+        let outset = choose(by_fives, files, 55, t);
         (outset.held.place, outset.side, outset.distance)
     };
     assert_eq!(chosen(&[], 30), (Place::Empty, Side::Earlier, 2));
@@ -107,7 +114,7 @@ fn candidates() {
 
 #[test]
 fn distance_both_ways_round() {
-    let keys = [10, 20, 30, 40];
-    assert_eq!((page_distance(&keys, 20, 40), page_distance(&keys, 40, 20)), (2, 2));
-    assert_eq!(page_distance(&keys, 0, 10), 0);
+    let distance = |outset_time, t| page_distance(by_fives(outset_time), by_fives(t));
+    assert_eq!((distance(20, 40), distance(40, 20)), (2, 2));
+    assert_eq!(distance(0, 10), 0);
 }

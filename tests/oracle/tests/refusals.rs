@@ -3,7 +3,7 @@
 
 mod common;
 
-use common::{by_hand, fresh, opened, opened_with, refused, strange, AMPLE, STRANGE};
+use common::{by_hand, fresh, opened, opened_with, position, refused, strange, AMPLE, STRANGE};
 use oracle::layout::{Header, Record, INSERTION};
 use oracle::limits::MOST_RECORDS;
 use oracle::log::{log_bytes, log_length};
@@ -113,7 +113,7 @@ fn question_1_lengths() {
     store.open().unwrap();
     store.keep(20).unwrap();
     store.keep(40).unwrap();
-    assert_eq!(store.position(60), Ok(3));
+    assert_eq!(position(&store, 60), (3, 8));
     assert!(store.audit());
     for shorten in shorter {
         let mut store = store.clone();
@@ -236,7 +236,7 @@ fn no_request_after_the_last_time_there_is() {
     refuses(&mut store, 6, |store| store.insert(u64::MAX, 8, 1));
     refuses(&mut store, 6, |store| store.delete(0, 7));
     refuses(&mut store, 6, |store| store.update(u64::MAX, 7, 1));
-    assert_eq!(store.position(u64::MAX), Ok(0));
+    assert_eq!(position(&store, u64::MAX), (0, 1));
 }
 
 /// 65,535 records, then one more: an update has no space, a single record has; then neither.
@@ -257,6 +257,8 @@ fn limit_of_records() {
     assert_eq!(store.numbers.records, MOST_RECORDS);
     assert_eq!(store.memory.index[65_534..65_536], [65_535, 1]);
     refuses(&mut store, 10, |store| store.insert(70_001, 7, 1));
+    assert_eq!(position(&store, 69_999), (32_767, 65_535));
+    assert_eq!(position(&store, 70_000), (32_767, 65_536));
     assert!(store.audit());
 }
 

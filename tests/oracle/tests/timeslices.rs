@@ -2,7 +2,7 @@
 
 mod common;
 
-use common::{opened_with, outset, table};
+use common::{opened_with, outset, position, table};
 use oracle::generate::legal_log;
 use oracle::layout::{Record, Row, INSERTION};
 use oracle::log::page_times;
@@ -59,7 +59,7 @@ fn the_time_itself_counts_and_half_an_update_is_never_seen() {
 fn an_update_split_over_two_pages_is_on_the_later_one() {
     let store = opened_with(3, 2, 4, &[Insert(10, 7, 50), Update(20, 7, 50, 44)]);
     assert_eq!(store.keys(), [10, 20]);
-    assert_eq!((store.position(19), store.position(20)), (Ok(0), Ok(1)));
+    assert_eq!((position(&store, 19).0, position(&store, 20).0), (0, 1));
     assert_eq!(outset(&store, 20), (Side::Later, 0));
     assert_eq!(outset(&store, 19), (Side::Earlier, 0));
 }

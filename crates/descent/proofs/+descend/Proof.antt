@@ -4,7 +4,7 @@ use Prim.Native.Nat.{ℕ, suc, _-_, _<_}
 use lib.ListN.{length}
 use Rattle.descent.specs.Descent.{Down}
 use Rattle.descent.proofs.Descents.{raised, down-node, under-low, leaves-few, child-small, child-inside, down-child, found-child}
-use Rattle.descent.proofs.Positions.{down-leaf, found-one}
+use Rattle.descent.proofs.Ends.{down-leaf, found-one}
 use borrow.Author.Needs.{needs}
 use native.Mathlib.Omega.{arith}
 use borrow.Fn.Kinds.{In}
@@ -66,17 +66,17 @@ module _ (t : ℕ) where
   down n = raised (omega arith) (n .before .before .before .pre .1)
 
   child-node-requires : descend-lts.Need-child-node-requires (claims t) (descend-at t) descend.Post
-  child-node-requires n κs = omega (arith, child-small (down n) (n .in-node .ensures))
+  child-node-requires n κs = omega (arith, child-small (down n) (n .in-node .ensures .upto))
 
   mul-past : descend-lts.Need-mul-past (claims t) (descend-at t) descend.Post
   mul-past c =
       let n = c .before in
-      omega (arith, child-inside (down n) (n .in-node .ensures))
+      omega (arith, child-inside (down n) (n .in-node .ensures .upto))
 
   sub-at-most : descend-lts.Need-sub-at-most (claims t) (descend-at t) descend.Post
   sub-at-most c =
       let n = c .before in
-      omega (arith, child-inside (down n) (n .in-node .ensures))
+      omega (arith, child-inside (down n) (n .in-node .ensures .upto))
 
   at-most-requires : descend-lts.Need-at-most-requires (claims t) (descend-at t) descend.Post
   at-most-requires c κs = search needs
@@ -95,12 +95,12 @@ module _ (t : ℕ) where
   add-descend : descend-lts.Need-add-descend (claims t) (descend-at t) descend.Post
   add-descend c =
       let n = c .before .before .before in
-      omega (arith, child-inside (down n) (n .in-node .ensures), leaves-few (down n))
+      omega (arith, child-inside (down n) (n .in-node .ensures .upto), leaves-few (down n))
 
   descend-requires : descend-lts.Need-descend-requires (claims t) (descend-at t) descend.Post
   descend-requires c κs =
       let n = c .before .before .before in
-      let child = down-child (down n) (n .in-node .ensures) (c .before .before .child-node .ensures) (c .unit-below .ensures) in
+      let child = down-child (down n) (n .in-node .ensures .upto) (c .before .before .child-node .ensures) (c .unit-below .ensures) in
       (omega arith, rw (c .before .at-most .ensures) child)
 
   returns-2 : descend-lts.Need-returns-2 (claims t) (descend-at t) descend.Post

@@ -1,7 +1,7 @@
 -- `descent::cut` meets its contract, on any words: each rung halves the bracket that holds the cut, from 63 words
 -- down to none. Assumes nothing.
 use borrow.Author.Needs.{needs}
-use Rattle.descent.proofs.Ranges.{bracket-end}
+use Rattle.codec.proofs.Searches.{bracket-end}
 use Rattle.descent.proofs.cut.Statement.{statement}
 use Rattle.descent.proofs.cut.Tie as tie
 

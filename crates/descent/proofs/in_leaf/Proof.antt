@@ -1,5 +1,5 @@
 -- `descent::in_leaf` meets its contract. Assumes nothing.
-use Rattle.descent.proofs.Positions.{leaf-number, leaf-long, found-leaf}
+use Rattle.descent.proofs.Ends.{leaf-number, leaf-long, found-leaf}
 use borrow.Author.Needs.{needs}
 use native.Mathlib.Omega.{arith}
 use Rattle.descent.proofs.in_leaf.Statement.{statement}

@@ -1,7 +1,7 @@
 -- `descent::rung` meets its contract: a case for each way that its two tests come out. Assumes nothing.
 use native.Mathlib.Omega.{arith}
 use borrow.Author.Needs.{needs}
-use Rattle.descent.proofs.Ranges.{bracket-up, bracket-down}
+use Rattle.codec.proofs.Searches.{bracket-up, bracket-down}
 use Rattle.descent.proofs.rung.Statement.{statement}
 use Rattle.descent.proofs.rung.Tie as tie
 

@@ -4,6 +4,7 @@
 use oracle::limits::{MOST_FILES, MOST_RECORDS};
 use oracle::log::log_length;
 use oracle::plain::Plain;
+use oracle::position::Position;
 use oracle::proved::{Memory, Store};
 use oracle::random::Random;
 use oracle::requests::{colliding, requests, Request};
@@ -89,10 +90,11 @@ fn main() {
 
     let last = plain.numbers.last;
     let asked: Vec<u64> = (0..POSITIONS).map(|_| random.from(0, last)).collect();
-    assert!(asked.iter().all(|&t| proved.position(t).unwrap() as usize == plain.position(t)));
+    assert!(asked.iter().all(|&t| proved.position(t).unwrap() == plain.position(t).unwrap()));
+    let sum = |position: Position| (position.page + position.requests) as u64;
     let position = best(
-        || asked.iter().map(|&t| proved.position(t).unwrap() as usize).sum::<usize>(),
-        || asked.iter().map(|&t| plain.position(t)).sum::<usize>(),
+        || asked.iter().map(|&t| sum(proved.position(t).unwrap())).sum::<u64>(),
+        || asked.iter().map(|&t| sum(plain.position(t).unwrap())).sum::<u64>(),
     );
     position.line("position", "ns", POSITIONS as f64);
 

@@ -9,6 +9,7 @@ use oracle::lent::{Lent, STRANGE};
 use oracle::log::log_length;
 use oracle::net_change::output_length;
 use oracle::outset::Place;
+use oracle::position::Position;
 use oracle::proved;
 use oracle::random::Random;
 use oracle::store::{Memory, Numbers, Refusal, Store, TableAnswer, View};
@@ -27,7 +28,7 @@ const ENDS: [(u16, u16, u32); 4] = [(64, 64, 2), (64, 64, 1), (3, 2, 2), (2, 2, 
 #[derive(Clone, Debug, PartialEq, Eq)]
 enum Answer {
     Change(Result<(), Refusal>),
-    Position(Result<u32, Refusal>),
+    Position(Result<Position, Refusal>),
     Table(Result<TableAnswer, Refusal>, Vec<u8>),
     View(Result<View, Refusal>),
     NetChange(Result<u32, Refusal>, Vec<u8>, Vec<u8>),
@@ -70,9 +71,10 @@ impl Answer {
     fn refusal(&self) -> Option<Refusal> {
         match self {
             Answer::Change(result) => result.err(),
-            Answer::Position(result) | Answer::NetChange(result, ..) => result.err(),
+            Answer::Position(result) => result.err(),
             Answer::Table(result, _) => result.err(),
             Answer::View(result) => result.err(),
+            Answer::NetChange(result, ..) => result.err(),
             Answer::Audit(_) | Answer::None => None,
         }
     }

@@ -3,6 +3,7 @@
 
 use super::c::{YkChange, YkNetChange, YkPosition, YkTable, YkView};
 use crate::outset::{Place, Side};
+use crate::position::Position;
 use crate::store::{Refusal, TableAnswer, View};
 
 /// The answer without its numbers.
@@ -15,10 +16,10 @@ pub fn change(answer: YkChange) -> Result<(), Refusal> {
     }
 }
 
-pub fn position(answer: YkPosition) -> Result<u32, Refusal> {
+pub fn position(answer: YkPosition) -> Result<Position, Refusal> {
     match answer {
-        YkPosition { question: 0, page } => Ok(page),
-        YkPosition { question: question @ 1..=16, page: 0 } => refused(question),
+        YkPosition { question: 0, page, requests } => Ok(Position { page, requests }),
+        YkPosition { question: question @ 1..=16, page: 0, requests: 0 } => refused(question),
         other => panic!("{other:?} is no answer"),
     }
 }

@@ -4,35 +4,9 @@ use crate::outset::Entry;
 use crate::store::Numbers;
 
 #[repr(C)]
-#[derive(Clone, Copy, Debug)]
-pub struct YkNumbers {
-    order: u16,
-    page: u16,
-    limit: u32,
-    records: u32,
-    last: u64,
-    live: u32,
-    files: u32,
-}
-
-impl From<Numbers> for YkNumbers {
-    fn from(s: Numbers) -> YkNumbers {
-        let Numbers { order, page_size, row_limit, records, last, live, files } = s;
-        YkNumbers { order, page: page_size, limit: row_limit, records, last, live, files }
-    }
-}
-
-impl From<YkNumbers> for Numbers {
-    fn from(s: YkNumbers) -> Numbers {
-        let YkNumbers { order, page, limit, records, last, live, files } = s;
-        Numbers { order, page_size: page, row_limit: limit, records, last, live, files }
-    }
-}
-
-#[repr(C)]
 #[derive(Debug)]
 pub struct YkChange {
-    pub numbers: YkNumbers,
+    pub numbers: Numbers,
     pub question: u8,
     pub record: u32,
 }
@@ -42,6 +16,7 @@ pub struct YkChange {
 pub struct YkPosition {
     pub question: u8,
     pub page: u32,
+    pub requests: u32,
 }
 
 #[repr(C)]
@@ -93,7 +68,7 @@ extern "C" {
     ) -> YkChange;
 
     pub fn yk_insert(
-        numbers: YkNumbers,
+        numbers: Numbers,
         log: *mut u8, log_length: usize,
         index: *mut u64, index_length: usize,
         table: *mut u8, table_length: usize,
@@ -103,7 +78,7 @@ extern "C" {
     ) -> YkChange;
 
     pub fn yk_delete(
-        numbers: YkNumbers,
+        numbers: Numbers,
         log: *mut u8, log_length: usize,
         index: *mut u64, index_length: usize,
         table: *mut u8, table_length: usize,
@@ -113,7 +88,7 @@ extern "C" {
     ) -> YkChange;
 
     pub fn yk_update(
-        numbers: YkNumbers,
+        numbers: Numbers,
         log: *mut u8, log_length: usize,
         index: *mut u64, index_length: usize,
         table: *mut u8, table_length: usize,
@@ -123,7 +98,7 @@ extern "C" {
     ) -> YkChange;
 
     pub fn yk_position(
-        numbers: YkNumbers,
+        numbers: Numbers,
         log: *const u8, log_length: usize,
         index: *const u64, index_length: usize,
         table: *const u8, table_length: usize,
@@ -133,7 +108,7 @@ extern "C" {
     ) -> YkPosition;
 
     pub fn yk_table(
-        numbers: YkNumbers,
+        numbers: Numbers,
         log: *const u8, log_length: usize,
         index: *const u64, index_length: usize,
         table: *const u8, table_length: usize,
@@ -144,7 +119,7 @@ extern "C" {
     ) -> YkTable;
 
     pub fn yk_view(
-        numbers: YkNumbers,
+        numbers: Numbers,
         log: *const u8, log_length: usize,
         index: *const u64, index_length: usize,
         table: *const u8, table_length: usize,
@@ -154,7 +129,7 @@ extern "C" {
     ) -> YkView;
 
     pub fn yk_net_change(
-        numbers: YkNumbers,
+        numbers: Numbers,
         log: *const u8, log_length: usize,
         index: *const u64, index_length: usize,
         table: *const u8, table_length: usize,
@@ -166,7 +141,7 @@ extern "C" {
     ) -> YkNetChange;
 
     pub fn yk_keep(
-        numbers: YkNumbers,
+        numbers: Numbers,
         log: *const u8, log_length: usize,
         index: *const u64, index_length: usize,
         table: *const u8, table_length: usize,
@@ -176,7 +151,7 @@ extern "C" {
     ) -> YkChange;
 
     pub fn yk_drop(
-        numbers: YkNumbers,
+        numbers: Numbers,
         log: *const u8, log_length: usize,
         index: *const u64, index_length: usize,
         table: *const u8, table_length: usize,
@@ -186,7 +161,7 @@ extern "C" {
     ) -> YkChange;
 
     pub fn yk_audit(
-        numbers: YkNumbers,
+        numbers: Numbers,
         log: *const u8, log_length: usize,
         index: *const u64, index_length: usize,
         table: *const u8, table_length: usize,

@@ -6,6 +6,7 @@ pub mod legal;
 use oracle::layout::{Header, Row};
 use oracle::net_change::output_length;
 use oracle::outset::{Entry, Side};
+use oracle::position::Position;
 use oracle::samples::{log_by_hand, log_of, records_of, Request};
 use oracle::store::{capacity, Lengths, Memory, Refusal, Store, TableAnswer};
 use oracle::table::table_length;
@@ -72,6 +73,12 @@ pub fn wrong_record(memory: Memory) -> u32 {
     expected.catalogue[..capacity].fill(Entry::default());
     assert_eq!(store, Store::over(expected));
     record
+}
+
+/// Page and requests of the position of t.
+pub fn position(store: &Store, t: u64) -> (u32, u32) {
+    let Position { page, requests } = store.position(t).unwrap();
+    (page, requests)
 }
 
 /// Rows and answer of the table of t.

@@ -1,14 +1,14 @@
--- `descent::position` meets its contract. Assumes nothing.
+-- `descent::keys_up_to` meets its contract. Assumes nothing.
 use native.Mathlib.Nat.{le-trans}
 use Rattle.tree.proofs.Leaves.{leaves-le}
-use Rattle.descent.proofs.Positions.{position-none, position-found, down-top}
+use Rattle.descent.proofs.Ends.{down-top, counted-all, counted-none}
 use borrow.Author.Needs.{needs}
 use native.Mathlib.Omega.{arith}
-use Rattle.descent.proofs.position.Statement.{statement}
-use Rattle.descent.proofs.position.Tie as tie
+use Rattle.descent.proofs.keys_up_to.Statement.{statement}
+use Rattle.descent.proofs.keys_up_to.Tie as tie
 
 returns : tie.Need-returns
-returns c = position-none (c .if1 .taken)
+returns c = counted-none (c .if1 .taken)
 
 cast-order : tie.Need-cast-order
 cast-order c = search needs
@@ -43,19 +43,11 @@ descend-requires c κs =
 
 returns-2 : tie.Need-returns-2
 returns-2 c =
-    let found = c .before in
-    position-found (found .before .before .before .before .before .pre) (omega arith) (found .descend .ensures) (omega arith)
+    let top = c .before in
+    counted-all (top .before .before .before .before .pre) (omega arith) (c .descend .ensures)
 
-sub-t14 : tie.Need-sub-t14
-sub-t14 c = search needs
-
-returns-3 : tie.Need-returns-3
-returns-3 c =
-    let found = c .before in
-    position-found (found .before .before .before .before .before .pre) (omega arith) (found .descend .ensures) (omega arith)
-
-pub position-spec : {M : Type 1} → statement M
-position-spec =
+pub keys-up-to-spec : {M : Type 1} → statement M
+keys-up-to-spec =
     tie.close
     (tie.spec
     returns
@@ -68,6 +60,4 @@ position-spec =
     top-of-requires
     cast-descend
     descend-requires
-    returns-2
-    sub-t14
-    returns-3)
+    returns-2)

@@ -1,7 +1,6 @@
--- Where a descent ends and where it starts: in a leaf, and at the top of all leaves; and the page position that
--- its count of keys gives. Assumes nothing.
+-- Where a descent ends and where it starts: in a leaf, and at the top of all leaves. Assumes nothing.
 use Prim.Native.Nat.{ℕ, _+_, _-_, _*_, _/_, _^_, _≤_, _<_, min}
-use mathlib.Core.Path.{_≡_, sym, ap, _∙_, subst}
+use mathlib.Core.Path.{_≡_, sym, _∙_, subst}
 use mathlib.Core.List.{List}
 use native.Mathlib.Omega.{arith}
 use native.Mathlib.Nat.{mul-le-mul-right, mul-le-mul-left, pow-zero, zero-mul, zero-add}
@@ -10,7 +9,7 @@ use Rattle.model.specs.Shape.{leavesOf}
 use Rattle.model.specs.Numbering.{nodeWord}
 use Rattle.tree.specs.Levels.{innersOver, Room}
 use Rattle.descent.specs.Ranges.{Cut, Between}
-use Rattle.descent.specs.Descent.{Leaf, Down, Found, Position}
+use Rattle.descent.specs.Descent.{Leaf, Down, Found, Counted}
 use Rattle.tree.proofs.Leaves.{leaf-there, leaves-low, leaves-high}
 use Rattle.descent.proofs.Counts.{count-none}
 use Rattle.descent.proofs.Ranges.{count-in-leaf}
@@ -87,18 +86,9 @@ module _ {d k n : ℕ} (h : Room d k n) (p : 0 < k) where
     above = λ i l q. absurd (omega (arith, leaves-high d k (h .order-low)));
   }
 
-  -- a page position from a number of keys
-  pub position-found : {xs : List ℕ} {t c q : ℕ} → Found xs d k t 0 (leavesOf d k) c → q ≡ c - 1 → Position xs d k t q
-  position-found {xs} {t} {c} f e = record {
-    packed = λ keys len rising pk. e ∙ ap (λ (x : ℕ). x - 1) (f .counts keys len rising pk (between-all keys t len));
-    within = omega (arith, f .within);
-    inside = λ _. omega (arith, f .within);
-  }
+  pub counted-all : {xs : List ℕ} {t c : ℕ} → Found xs d k t 0 (leavesOf d k) c → Counted xs d k t c
+  counted-all {t = t} f =
+      record { packed = λ keys len rising pk. f .counts keys len rising pk (between-all keys t len); within = f .within }
 
--- no key: position 0
-pub position-none : {xs : List ℕ} {d k t : ℕ} → k ≡ 0 → Position xs d k t 0
-position-none {t = t} e = record {
-  packed = λ keys len rising pk. sym (ap (λ (x : ℕ). x - 1) (count-none keys t (len ∙ e)));
-  within = omega arith;
-  inside = λ l. absurd (omega arith);
-}
+pub counted-none : {xs : List ℕ} {d k t : ℕ} → k ≡ 0 → Counted xs d k t 0
+counted-none {t = t} e = record { packed = λ keys len rising pk. sym (count-none keys t (len ∙ e)); within = omega arith }
