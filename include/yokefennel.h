@@ -120,8 +120,9 @@ typedef struct yk_change {
 } yk_change;
 
 typedef struct yk_position_answer {
-    uint8_t question; /* an enum yk_question */
-    uint32_t page;    /* the page position, 0 where refused */
+    uint8_t question;  /* an enum yk_question; all else is 0 where refused */
+    uint32_t page;     /* the page in which the time lies, 0 also before the first request */
+    uint32_t requests; /* records at or before the time, two for an update; 0 before the first */
 } yk_position_answer;
 
 typedef struct yk_table_answer {
@@ -195,7 +196,7 @@ yk_change yk_update(yk_numbers numbers, uint8_t *log, size_t log_length, uint64_
     uint8_t *table, size_t table_length, const yk_entry *entries, size_t entries_length, const uint8_t *areas,
     size_t areas_length, uint64_t time, uint32_t article, uint32_t count);
 
-/* The page position of a time. Writes nothing. Refuses by 1, 12. */
+/* The position of a time: its page and its requests. Writes nothing. Refuses by 1, 12. */
 yk_position_answer yk_position(yk_numbers numbers, const uint8_t *log, size_t log_length, const uint64_t *index,
     size_t index_length, const uint8_t *table, size_t table_length, const yk_entry *entries,
     size_t entries_length, const uint8_t *areas, size_t areas_length, uint64_t time);

@@ -80,7 +80,7 @@ mod store;
 pub use bytes::{Row, Rows, Step, Steps};
 pub use lengths::Lengths;
 pub use refusal::Refusal;
-pub use store::{Lent, NetChange, Place, Settings, Side, Store, Table, View};
+pub use store::{Lent, NetChange, Place, Position, Settings, Side, Store, Table, View};
 
 /// The store's numbers. They say what the lent memory holds.
 #[repr(C)]

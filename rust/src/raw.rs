@@ -23,8 +23,10 @@ pub struct Change {
 pub struct PositionAnswer {
     /// 01's number of the question answered no, or 0
     pub question: u8,
-    /// the page position
+    /// the page in which the time lies, 0 also before the first request
     pub page: u32,
+    /// records at or before the time, two for an update; 0 before the first
+    pub requests: u32,
 }
 
 /// What [`yk_table`] answers.
@@ -155,7 +157,7 @@ extern "C" {
         time: u64, article: u32, count: u32,
     ) -> Change;
 
-    /// The page position of a time.
+    /// The position of a time: its page and its requests.
     pub fn yk_position(
         numbers: Numbers,
         log: *const u8, log_length: usize,

@@ -44,6 +44,15 @@ pub enum Side {
     Later,
 }
 
+/// The position of a time.
+#[derive(Clone, Copy, Debug, PartialEq, Eq, Hash)]
+pub struct Position {
+    /// the page in which it lies, 0 also before the first request
+    pub page: u32,
+    /// records at or before it, two for an update; 0 before the first
+    pub requests: u32,
+}
+
 /// The table of a time, in the output that was lent for it.
 #[derive(Clone, Copy, Debug)]
 pub struct Table<'o> {
@@ -301,10 +310,10 @@ impl<'a> Store<'a> {
         self.take(answer)
     }
 
-    /// The page position of a time.
+    /// The position of a time: its page and its requests.
     ///
     /// Refuses by 1, 12.
-    pub fn position(&self, time: u64) -> Result<u32, Refusal> {
+    pub fn position(&self, time: u64) -> Result<Position, Refusal> {
         let Lent { log, index, table, entries, areas } = &self.lent;
         let answer = unsafe {
             raw::yk_position(
@@ -315,7 +324,7 @@ impl<'a> Store<'a> {
             )
         };
         accepted(answer.question)?;
-        Ok(answer.page)
+        Ok(Position { page: answer.page, requests: answer.requests })
     }
 
     /// The table of a time, into the first 8 × limit bytes of `out`.

@@ -64,8 +64,9 @@ fn log_numbers_and_positions() {
     assert_eq!(store.numbers(), numbers);
     assert_eq!(store.log(), std::fs::read("../samples/log-by-hand.log").unwrap());
     assert_eq!(store.rows().collect::<Vec<_>>(), [row(7, 44), row(9, 6)]);
-    let pages = [0, 29, 30, 35, 40, 60].map(|time| store.position(time).unwrap());
-    assert_eq!(pages, [0, 0, 1, 1, 2, 3]);
+    let positions = [0, 9, 10, 29, 30, 35, 40, 60].map(|time| store.position(time).unwrap());
+    assert_eq!(positions.map(|position| position.page), [0, 0, 0, 0, 1, 1, 2, 3]);
+    assert_eq!(positions.map(|position| position.requests), [0, 0, 1, 2, 4, 4, 5, 8]);
     assert!(store.audit());
 }
 

@@ -62,7 +62,8 @@ static void ask(const yk_store *store) {
     yk_table_answer day = yk_store_table(store, 20, out, sizeof out);
     require(day.question == YK_ACCEPTED && day.rows == 2, "the table of 20");
     require(row_is(yk_row_at(out, 0), 3, 12) && row_is(yk_row_at(out, 1), 7, 50), "its rows");
-    require(yk_store_position(store, 40).page == 2, "position");
+    yk_position_answer at = yk_store_position(store, 40);
+    require(at.question == YK_ACCEPTED && at.page == 2 && at.requests == 5, "position");
     yk_net_change_answer change = yk_store_net_change(store, 20, 45, out, sizeof out, work, sizeof work);
     require(change.question == YK_ACCEPTED && change.entries == 3, "net change");
     require(step_is(yk_step_at(out, 0), YK_DELETION, 3, 12) && step_is(yk_step_at(out, 1), YK_DELETION, 7, 50)

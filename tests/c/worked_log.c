@@ -151,11 +151,13 @@ static void compare_log(const char *name) {
 }
 
 static void compare_positions(void) {
-    static const uint64_t asked[6] = {0, 29, 30, 35, 40, 60};
-    static const uint32_t pages[6] = {0, 0, 1, 1, 2, 3};
-    for (int i = 0; i < 6; i++) {
+    static const uint64_t asked[8] = {0, 9, 10, 29, 30, 35, 40, 60};
+    static const uint32_t pages[8] = {0, 0, 0, 0, 1, 1, 2, 3};
+    static const uint32_t requests[8] = {0, 0, 1, 2, 4, 4, 5, 8};
+    for (int i = 0; i < 8; i++) {
         yk_position_answer answer = yk_position(numbers, STORE, asked[i]);
-        require(answer.question == YK_ACCEPTED && answer.page == pages[i], "page position");
+        require(answer.question == YK_ACCEPTED && answer.page == pages[i], "page of a position");
+        require(answer.requests == requests[i], "requests of a position");
     }
 }
 
@@ -311,7 +313,8 @@ static void refused_answers(void) {
     yk_table_answer rows = table(61, out);
     yk_view_answer view = yk_view(numbers, STORE, 61);
     yk_part part = yk_view_part(view, lent.areas, lent.table);
-    require(position.page == 0 && rows.rows == 0 && rows.later == 0 && rows.distance == 0, "refused: zeros");
+    require(position.page == 0 && position.requests == 0 && rows.rows == 0 && rows.later == 0 && rows.distance == 0,
+        "refused: zeros");
     require(view.place == 0 && view.area == 0 && view.rows == 0 && view.later == 0 && view.distance == 0
             && view.start == 0 && view.length == 0 && part.bytes == lent.table && part.length == 0,
         "a refused view is empty");
