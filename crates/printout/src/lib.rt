@@ -3,7 +3,7 @@
 mod input;
 mod output;
 
-ghost use Prim.Native.Nat.{_+_, _≤_};
+ghost use Prim.Native.Nat.{_+_, _≤_, _<_};
 ghost use lib.ListN.{length};
 use catalogue::Catalogue;
 use model::Numbers;
@@ -15,6 +15,12 @@ use model::Verdict;
 use output::Room;
 use reader::Step;
 
+// The bytes in use behind a line, and the requests up to its time; none where there is no line.
+pub struct Listed {
+    pub at: usize,
+    pub requests: u32,
+}
+
 // No count file is kept, and no entry is lent.
 fn no_files() -> Catalogue {
     Catalogue {
@@ -23,26 +29,22 @@ fn no_files() -> Catalogue {
     }
 }
 
-// Gathers the line for the time t, unless it was the last one listed.
+// Gathers the line for the time t.
 fn list_time(
     s: Numbers,
     log: &[u8],
     index: &[u64],
     current: &[u8],
     t: u64,
-    last: u64,
     out: &mut [u8],
     buffer: &mut [u8],
     at: usize,
-) -> usize
+) -> Listed
     requires { ⌜ at + 65 ≤ length (now buffer) ⌝ }
-    ensures { λ r. ⌜ r ≤ at + 65 ⌝ }
+    ensures { λ r. ⌜ r .at ≤ at + 65 ⌝ }
 {
-    if t == last {
-        return at;
-    }
     let PositionAnswer::At(position) = tables::position(s, log, index, current, 0, 0, t) else {
-        return at;
+        return Listed { at, requests: 0 };
     };
     let none = &current[0..0];
     let TableAnswer::Table {
@@ -51,9 +53,23 @@ fn list_time(
         distance: _,
     } = tables::table(s, log, index, current, no_files(), none, t, out)
     else {
-        return at;
+        return Listed { at, requests: 0 };
     };
-    lines::put_line(buffer, at, t, position.page.0, side, rows)
+    Listed {
+        at: lines::put_line(buffer, at, t, position.page.0, side, rows),
+        requests: position.requests,
+    }
+}
+
+// The first record after those up to the time that was listed, record k's; one on where there was no line.
+fn record_after(k: u32, requests: u32) -> u32
+    requires { ⌜ k < 65536 ⌝ }
+    ensures { λ r. ⌜ k < r ⌝ }
+{
+    if k < requests {
+        return requests;
+    }
+    k + 1
 }
 
 // A line for each different time among the records.
@@ -69,7 +85,6 @@ fn list(
     ensures { λ r. ⌜ r ≤ 3 ⌝ }
 {
     let mut at = lines::gather(buffer, 0, b"time page outset rows\n");
-    let mut last: u64 = 0;
     let mut k: u32 = 0;
     while k < 65536 {
         let Step::Next(r) = reader::record_of(log, RecordNumber(k)) else {
@@ -78,9 +93,9 @@ fn list(
         let Room::At(room) = output::make_room(buffer, at) else {
             return output::fail();
         };
-        at = list_time(s, log, index, current, r.time, last, out, buffer, room);
-        last = r.time;
-        k += 1;
+        let listed = list_time(s, log, index, current, r.time, out, buffer, room);
+        at = listed.at;
+        k = record_after(k, listed.requests);
     }
     output::finish(buffer, at, output::LISTED)
 }

@@ -1,5 +1,4 @@
--- `printout::list` is safe and ends. Invariant: k is at most 65,536, the lent slices have their lengths and the bytes in use lie
--- in the buffer. Measure: the records left. Assumes nothing.
+-- `printout::list` is safe and ends. Invariant: the lent slices have their lengths and the bytes in use lie in the buffer. Measure: the records left. Assumes nothing.
 use Prim.Native.Nat.{_+_, _≤_, _-_}
 use mathlib.Core.Path.{_≡_, _∙_}
 use lib.ListN.{length}
@@ -9,11 +8,11 @@ use Rattle.printout.proofs.list.Statement.{statement}
 use Rattle.printout.proofs.list.Tie as tie
 
 abbrev Inv-loop : tie.InvT-loop
-Inv-loop s log index current out₀ buffer₀ at₀ last₀ k₀ out buffer at last k =
-    (k ≤ 65536) × (length out ≡ length out₀) × (length buffer ≡ length buffer₀) × (at ≤ length buffer)
+Inv-loop s log index current out₀ buffer₀ at₀ k₀ out buffer at k =
+    (length out ≡ length out₀) × (length buffer ≡ length buffer₀) × (at ≤ length buffer)
 
 abbrev μ-loop : tie.MeasureT-loop
-μ-loop s log index current out₀ buffer₀ at₀ last₀ k₀ out buffer at last k = 65536 - k
+μ-loop s log index current out₀ buffer₀ at₀ k₀ out buffer at k = 65536 - k
 
 slice-aggregate-gather : tie.Need-slice-aggregate-gather Inv-loop μ-loop
 slice-aggregate-gather c = search needs
@@ -80,19 +79,19 @@ fits c = rw (c .room .given .1) at (c .before .before .make-room .ensures)
 list-time-requires : tie.Need-list-time-requires Inv-loop μ-loop
 list-time-requires c κs = fits (c .before .before .before)
 
-add-k : tie.Need-add-k Inv-loop μ-loop
-add-k c = search needs
+record-after-requires : tie.Need-record-after-requires Inv-loop μ-loop
+record-after-requires c κs = search needs
 
 loop-less : tie.Need-loop-less Inv-loop μ-loop
 loop-less c = search needs
 
 loop-again : tie.Need-loop-again Inv-loop μ-loop
 loop-again c =
-    let listed = c .before .before .before .before in
+    let listed = c .before .before .before .before .before in
     let roomy = listed .before .before .before .before in
     let l = loop-at roomy .loop in
-    let kept = listed .list-time .kept .1 .1 .1 .1 .1 .1 in
-    (omega arith, kept .0 ∙ l .inv .1, kept .1 .0 ∙ l .inv .2, omega (arith, fits roomy, kept .1 .0, listed .list-time .ensures))
+    let kept = listed .list-time .kept .1 .1 .1 .1 .1 in
+    (kept .0 ∙ l .inv .0, kept .1 .0 ∙ l .inv .1, omega (arith, fits roomy, kept .1 .0, listed .list-time .ensures))
 
 finish-requires-2 : tie.Need-finish-requires-2 Inv-loop μ-loop
 finish-requires-2 c κs = search needs
@@ -130,7 +129,7 @@ list-spec =
     same-length-4
     returns-2
     list-time-requires
-    add-k
+    record-after-requires
     loop-less
     loop-again
     finish-requires-2

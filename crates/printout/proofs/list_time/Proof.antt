@@ -3,9 +3,6 @@ use borrow.Author.Needs.{needs}
 use Rattle.printout.proofs.list_time.Statement.{statement}
 use Rattle.printout.proofs.list_time.Tie as tie
 
-returns : tie.Need-returns
-returns c = search needs
-
 position-requires : tie.Need-position-requires
 position-requires c κs = search needs
 
@@ -15,8 +12,8 @@ enum-known-position c = search needs
 enum-told : tie.Need-enum-told
 enum-told c = search needs
 
-returns-2 : tie.Need-returns-2
-returns-2 c = search needs
+returns : tie.Need-returns
+returns c = search needs
 
 sub-none : tie.Need-sub-none
 sub-none c = search needs
@@ -42,8 +39,8 @@ enum-told-2 c = search needs
 same-length : tie.Need-same-length
 same-length c = search needs
 
-returns-3 : tie.Need-returns-3
-returns-3 c = search needs
+returns-2 : tie.Need-returns-2
+returns-2 c = search needs
 
 put-line-requires : tie.Need-put-line-requires
 put-line-requires c κs = search needs
@@ -54,18 +51,17 @@ same-length-2 c = search needs
 same-length-3 : tie.Need-same-length-3
 same-length-3 c = search needs
 
-returns-4 : tie.Need-returns-4
-returns-4 c = c .before .before .put-line .ensures .1
+returns-3 : tie.Need-returns-3
+returns-3 c = c .before .before .put-line .ensures .1
 
 pub list-time-spec : {M : Type 1} → statement M
 list-time-spec =
     tie.close
     (tie.spec
-    returns
     position-requires
     enum-known-position
     enum-told
-    returns-2
+    returns
     sub-none
     part-none-start
     part-none-end
@@ -74,8 +70,8 @@ list-time-spec =
     enum-known-rows
     enum-told-2
     same-length
-    returns-3
+    returns-2
     put-line-requires
     same-length-2
     same-length-3
-    returns-4)
+    returns-3)
