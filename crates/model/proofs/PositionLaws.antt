@@ -1,9 +1,8 @@
 -- Page and count of a position (02, wish 5): of a legal log the records counted are those at or before the time, the last of
 -- them is on the page, and no other two numbers are so; none is counted before the first alone, and of an update split
 -- over two pages both. Assumes nothing.
-use Prim.Native.Nat.{ℕ, zero, suc, _+_, _-_, _*_, _≤_, _<_}
+use Prim.Native.Nat.{ℕ, zero, suc, _-_, _*_, _≤_, _<_}
 use mathlib.Core.Path.{_≡_, refl, ap, _∙_}
-use mathlib.Core.Logic.{_↔_}
 use mathlib.Core.List.{List}
 use mathlib.Core.Bool.{Bool, true, false}
 use native.Mathlib.Omega.{arith}
@@ -56,8 +55,8 @@ module _ (N R : ℕ) (rs : List Rec) (t : ℕ) (two : 2 ≤ N) (ok : legal R rs 
 
 pub page-tied-to-count : PageTiedToCount
 page-tied-to-count N R rs t two ok = record {
-  within = length-up-to t rs;
-  counted = λ i l. (records-up-to-before R rs ok t i, records-up-to-lt R rs ok t i l);
+  within = omega (arith, length-up-to t rs);
+  counted = λ i l. (λ h. records-up-to-before R rs ok t i (omega arith), λ h. omega (arith, records-up-to-lt R rs ok t i l h));
   on-page = last-on-page N R rs t two ok;
   page-zero = none-page-zero N R rs t two ok;
 }

@@ -13,7 +13,6 @@ use Rattle.model.specs.Memory.{Memory, State, state}
 use Rattle.model.specs.Starts.{freshOf}
 use Rattle.model.specs.Changes.{updateOf}
 use Rattle.model.specs.Queries.{positionOf}
-use Rattle.model.specs.Answers.{answers}
 use Rattle.model.specs.Files.{keepOf}
 use Rattle.model.specs.Audit.{auditOf}
 use Rattle.worked.proofs.Computing.{computing}
