@@ -1,16 +1,34 @@
 -- The search over ranges of leaves: what a cut of a node's words says of the keys. No node numbers, and the
 -- keys w to a leaf. Assumes nothing.
 use Prim.Native.Nat.{ℕ, zero, suc, _+_, _-_, _*_, _/_, _≤_, _<_, min, suc-le-suc}
-use mathlib.Core.Path.{_≡_, refl, sym, subst}
+use mathlib.Core.Path.{_≡_, refl, sym, subst, _∙_}
 use mathlib.Core.Logic.{⊎-elim}
 use mathlib.Core.List.{List}
 use native.Mathlib.Omega.{arith}
 use native.Mathlib.Nat.{le-trans, le-of-lt, lt-of-lt-of-le, add-zero, mul-le-mul-right, le-div-iff-mul-le, div-lt-iff-lt-mul, zero-mul}
-use lib.ListN.{length, getD}
+use lib.ListN.{length, getD, take, drop}
+use lib.Seq.{getD-take, getD-drop}
+use Rattle.codec.specs.Search as search
+use Rattle.codec.proofs.PartLaws.{length-part}
 use Rattle.model.specs.Tree.{Rising, keysUpTo}
 use Rattle.descent.specs.Ranges.{Cut, Between}
 use Rattle.tree.proofs.Orders.{le-or-lt}
 use Rattle.descent.proofs.Counts.{count-is}
+
+-- a cut of the part that is searched is one of the whole
+pub cut-of-part : (xs : List ℕ) (at c t j : ℕ) → at + c ≤ length xs → let words = take c (drop at xs) in search.Cut (λ i. getD words i 0) (length words) t j → Cut xs at c t j
+cut-of-part xs at c t j fits cut =
+    record {
+      upto = omega (arith, long, cut .upto);
+      before = λ l. rw (← word (j - 1) (omega (arith, long, cut .upto))) (cut .before l);
+      after = λ l. rw (← word j l) (cut .after (omega (arith, long)));
+    }
+  where
+    long : length (take c (drop at xs)) ≡ c
+    long = length-part at c xs fits
+
+    word : (i : ℕ) → i < c → getD (take c (drop at xs)) i 0 ≡ getD xs (at + i) 0
+    word i l = getD-take c (drop at xs) i 0 l ∙ getD-drop at xs i 0
 
 -- ---- one node: separators u leaves apart, of which j are at most t
 module _ (keys xs : List ℕ) (w t a r u n j : ℕ) (one : 0 < w) (pos : 0 < u) (rising : Rising keys)

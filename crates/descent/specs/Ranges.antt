@@ -5,12 +5,13 @@ use lib.ListN.{length, getD}
 use mathlib.Core.List.{List}
 use Rattle.codec.specs.Search as search
 
--- of the c words from `at` on, the jth and the one before it lie on two sides of t; and on the way there
+-- of the c words from `at` on, the jth and the one before it lie on two sides of t
 abbrev pub Cut : (words : List ℕ) (at c t j : ℕ) → Type 0
 Cut words at c t j = search.Cut (λ i. getD words (at + i) 0) c t j
 
-abbrev pub Bracket : (words : List ℕ) (at c t low left : ℕ) → Type 0
-Bracket words at c t low left = search.Bracket (λ i. getD words (at + i) 0) c t low left
+-- on the way there, in those words alone
+abbrev pub Bracket : (words : List ℕ) (t low left : ℕ) → Type 0
+Bracket words t low left = search.Bracket (λ i. getD words i 0) (length words) t low left
 
 -- the keys up to t end in the leaves a to a + r - 1 of w keys each, of which the last has a key
 pub record Between (keys : List ℕ) (w t a r : ℕ) : Type 0 where

@@ -17,16 +17,15 @@ pub struct Top {
 }
 
 // One rung of the search: k words more are passed where there are so many and the last of them is at most t.
-fn rung(index: &[u64], at: usize, c: usize, low: usize, k: usize, t: u64) -> usize
-    requires { ⌜ at + c ≤ length (now index) ⌝ }
+fn rung(words: &[u64], low: usize, k: usize, t: u64) -> usize
     requires { ⌜ (0 < k) × (k ≤ 32) ⌝ }
-    requires { ⌜ Bracket (now index) at c t low (2 * k - 1) ⌝ }
-    ensures { λ r. ⌜ Bracket (now (index .entry)) at c t r (k - 1) ⌝ }
+    requires { ⌜ Bracket (now words) t low (2 * k - 1) ⌝ }
+    ensures { λ r. ⌜ Bracket (now (words .entry)) t r (k - 1) ⌝ }
 {
-    if c < low + k {
+    if words.len() < low + k {
         return low;
     }
-    if index[at + (low + k - 1)] <= t {
+    if words[low + k - 1] <= t {
         return low + k;
     }
     low
@@ -39,12 +38,13 @@ fn cut(index: &[u64], at: usize, c: usize, t: u64) -> usize
     requires { ⌜ c ≤ 63 ⌝ }
     ensures { λ r. ⌜ Cut (now (index .entry)) at c t r ⌝ }
 {
-    let l32 = rung(index, at, c, 0, 32, t);
-    let l16 = rung(index, at, c, l32, 16, t);
-    let l8 = rung(index, at, c, l16, 8, t);
-    let l4 = rung(index, at, c, l8, 4, t);
-    let l2 = rung(index, at, c, l4, 2, t);
-    rung(index, at, c, l2, 1, t)
+    let words = &index[at..at + c];
+    let l32 = rung(words, 0, 32, t);
+    let l16 = rung(words, l32, 16, t);
+    let l8 = rung(words, l16, 8, t);
+    let l4 = rung(words, l8, 4, t);
+    let l2 = rung(words, l4, 2, t);
+    rung(words, l2, 1, t)
 }
 
 // Of leaf a, whose number is first: the keys before it, and those of its own that are at most t.

@@ -17,9 +17,6 @@ add-if2 c = search needs
 sub-if2 : tie.Need-sub-if2
 sub-if2 c = search needs
 
-add-if2-2 : tie.Need-add-if2-2
-add-if2-2 c = search needs
-
 mul-if2 : tie.Need-mul-if2
 mul-if2 c = search needs
 
@@ -32,12 +29,12 @@ add-result c = search needs
 returns-2 : tie.Need-returns-2
 returns-2 c =
     let g = c .before .before .before in
-    bracket-up (g .args .k) (omega arith) (omega arith) (omega arith) (g .pre .1 .1)
+    bracket-up (g .args .k) (omega arith) (omega arith) (omega arith) (g .pre .1)
 
 returns-3 : tie.Need-returns-3
 returns-3 c =
     let g = c .before .before .before in
-    bracket-down (g .args .k) (omega arith) (omega arith) (g .pre .1 .1)
+    bracket-down (g .args .k) (omega arith) (omega arith) (g .pre .1)
 
 pub rung-spec : {M : Type 1} → statement M
 rung-spec =
@@ -47,7 +44,6 @@ rung-spec =
     returns
     add-if2
     sub-if2
-    add-if2-2
     mul-if2
     shared-slice-read-if2
     add-result
