@@ -1,6 +1,6 @@
--- The mission's demands 2 and 3 and the audit's exactness, as statements over lists of calls, and the same of calls that
--- are made by code (`Chains`). Which of them is proved, and where, is listed in docs/PROMISES.md. Demand 1 is the contracts
--- of the calls. Assumes nothing.
+-- The mission's demands 2 and 3, the audit's exactness and what positions tell (02, wish 5), as statements over lists of
+-- calls, and the same of calls that are made by code (`Chains`). Which of them is proved, and where, is listed in
+-- docs/PROMISES.md. Demand 1 is the contracts of the calls. Assumes nothing.
 use Prim.Native.Nat.{ℕ, _+_, _*_, _≤_}
 use mathlib.Core.Path.{_≡_}
 use mathlib.Core.Logic.{_⊎_, _↔_}
@@ -194,7 +194,8 @@ PositionsTell = AfterEveryList (λ st. (t : ℕ) → t ≤ st .numbers .last →
 
 -- ---- the same of calls that are made, each keeping the promise of its contract
 
--- a call made on st answers what its definition gives and leaves what it says; so what is said above holds of the answers
+-- a call made on st answers what its definition gives and leaves what it says; so demands 2 and 3 hold of the answers, and
+-- positions tell what they must
 pub record AnswersOf (st : State) : Type 0 where
   pub each : (c : Call) (said : Said) (st' : State) → Carried st c said st' → (said ≡ answerOf st c) × (st' ≡ step st c)
   pub positions : (t : ℕ) (o : Outcome Position) (st' : State) → t ≤ st .numbers .last → Carried st (Call.position t) (positioned o) st' → PositionTells st t o
