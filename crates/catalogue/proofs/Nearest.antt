@@ -1,6 +1,6 @@
 -- The choice of outset is a nearest one (01, "Count files"): what the two candidates are among the held tables, and that the
--- distance of the one chosen is least, for any measure that never falls. Assumes nothing.
-use Prim.Native.Nat.{ℕ, _≤_, _<_, zero-le}
+-- least lies between t and the one chosen, for any measure that never falls. Assumes nothing.
+use Prim.Native.Nat.{ℕ, suc, _≤_, _<_, zero-le}
 use mathlib.Core.Path.{_≡_, refl, ap}
 use mathlib.Core.List.{List, [], _∷_, _++_, List·Memᴰ, List·Memᴰ·head, List·Memᴰ·tail, List·Memᴰ·not-nil, List·Memᴰ·cases-cons, List·Memᴰ·append-cases, List·Memᴰ·eq-of-singleton, Memᴰ·append-left, Memᴰ·append-right}
 use mathlib.Core.Logic.{_⊎_, inl, inr}
@@ -11,7 +11,7 @@ use lib.Dec.{leb, ltb}
 use borrow.Author.Tests.{leb-true, leb-false, ltb-true, ltb-false}
 use Rattle.model.specs.declared.Held.{Held}
 use Rattle.model.specs.declared.Side.the-variants.{Earlier, Later}
-use Rattle.model.specs.Outset.{emptyTable, latest, earliest, apart, distance, chosen, chooseBy}
+use Rattle.model.specs.Outset.{emptyTable, latest, earliest, apart, between, chosen, chooseBy}
 
 -- ---- one table looked at: what holds of either outcome holds of the one kept
 
@@ -138,24 +138,34 @@ apart-above x y z p q = omega arith
 
 module _ (f : ℕ → ℕ) (t : ℕ) (early late : Held) where
   -- the choice is no farther than either candidate
-  pub chosen-no-farther : (chooseBy f t early late .distance ≤ distance f t early) × (chooseBy f t early late .distance ≤ distance f t late)
+  pub chosen-no-farther : (chooseBy f t early late .between ≤ between f t early) × (chooseBy f t early late .between ≤ between f t late)
   unfolding chooseBy
-  chosen-no-farther = by-test (ltb (distance f t late) (distance f t early)) refl
+  chosen-no-farther = by-test (ltb (between f t late) (between f t early)) refl
     where
-      by-test : (b : Bool) → ltb (distance f t late) (distance f t early) ≡ b
-          → (cond b (chosen f t late Later) (chosen f t early Earlier) .distance ≤ distance f t early) × (cond b (chosen f t late Later) (chosen f t early Earlier) .distance ≤ distance f t late)
-      by-test true e = (le-of-lt (ltb-true _ _ e), le-refl (distance f t late))
-      by-test false e = (le-refl (distance f t early), ltb-false _ _ e)
+      by-test : (b : Bool) → ltb (between f t late) (between f t early) ≡ b
+          → (cond b (chosen f t late Later) (chosen f t early Earlier) .between ≤ between f t early) × (cond b (chosen f t late Later) (chosen f t early Earlier) .between ≤ between f t late)
+      by-test true e = (le-of-lt (ltb-true _ _ e), le-refl (between f t late))
+      by-test false e = (le-refl (between f t early), ltb-false _ _ e)
 
   -- the outset is the candidate on the side that is said
   pub chosen-side : (chooseBy f t early late .side ≡ Earlier → chooseBy f t early late .outset ≡ early) × (chooseBy f t early late .side ≡ Later → chooseBy f t early late .outset ≡ late)
   unfolding chooseBy
-  chosen-side = by-test (ltb (distance f t late) (distance f t early))
+  chosen-side = by-test (ltb (between f t late) (between f t early))
     where
       by-test : (b : Bool) → (cond b (chosen f t late Later) (chosen f t early Earlier) .side ≡ Earlier → cond b (chosen f t late Later) (chosen f t early Earlier) .outset ≡ early)
           × (cond b (chosen f t late Later) (chosen f t early Earlier) .side ≡ Later → cond b (chosen f t late Later) (chosen f t early Earlier) .outset ≡ late)
       by-test true = (λ e. cc, λ e. refl)
       by-test false = (λ e. refl, λ e. cc)
+
+  -- the later candidate is strictly nearer where it is chosen
+  pub chosen-later : chooseBy f t early late .side ≡ Later → chooseBy f t early late .between < between f t early
+  unfolding chooseBy
+  chosen-later = by-test (ltb (between f t late) (between f t early)) refl
+    where
+      by-test : (b : Bool) → ltb (between f t late) (between f t early) ≡ b → cond b (chosen f t late Later) (chosen f t early Earlier) .side ≡ Later
+          → cond b (chosen f t late Later) (chosen f t early Earlier) .between < between f t early
+      by-test true e is = ltb-true _ _ e
+      by-test false e is = let no : between f t early ≡ suc (between f t early) = cc in omega arith
 
 module _ (f : ℕ → ℕ) (rises : (x y : ℕ) → x ≤ y → f x ≤ f y) (t : ℕ) (cur : Held) (fs : List Held) (reaches : t ≤ cur .time) where
   abbrev early : Held
@@ -164,40 +174,40 @@ module _ (f : ℕ → ℕ) (rises : (x y : ℕ) → x ≤ y → f x ≤ f y) (t 
   abbrev late : Held
   late = earliest t cur fs
 
-  pub early-nearest : (h : Held) → List·Memᴰ h (emptyTable ∷ fs) → h .time ≤ t → distance f t early ≤ distance f t h
+  pub early-nearest : (h : Held) → List·Memᴰ h (emptyTable ∷ fs) → h .time ≤ t → between f t early ≤ between f t h
   early-nearest h m k =
       apart-below (f t) (f (early .time)) (f (h .time)) (rises _ _ (latest-last t emptyTable fs h m k)) (rises _ _ (latest-before t emptyTable fs zero-le))
 
-  pub late-nearest : (h : Held) → List·Memᴰ h (fs ++ (cur ∷ [])) → t ≤ h .time → distance f t late ≤ distance f t h
+  pub late-nearest : (h : Held) → List·Memᴰ h (fs ++ (cur ∷ [])) → t ≤ h .time → between f t late ≤ between f t h
   late-nearest h m k =
       apart-above (f t) (f (late .time)) (f (h .time)) (rises _ _ (earliest-after t cur fs reaches)) (rises _ _ (earliest-first t cur fs h m k))
 
   -- no held table is nearer than the one chosen
-  pub nearest : (h : Held) → List·Memᴰ h (emptyTable ∷ (fs ++ (cur ∷ []))) → chooseBy f t early late .distance ≤ distance f t h
+  pub nearest : (h : Held) → List·Memᴰ h (emptyTable ∷ (fs ++ (cur ∷ []))) → chooseBy f t early late .between ≤ between f t h
   nearest h m = by-cases (List·Memᴰ·cases-cons m)
     where
-      of-early : List·Memᴰ h (emptyTable ∷ fs) → h .time ≤ t → chooseBy f t early late .distance ≤ distance f t h
+      of-early : List·Memᴰ h (emptyTable ∷ fs) → h .time ≤ t → chooseBy f t early late .between ≤ between f t h
       of-early n k = le-trans (chosen-no-farther f t early late .0) (early-nearest h n k)
 
-      of-late : List·Memᴰ h (fs ++ (cur ∷ [])) → t ≤ h .time → chooseBy f t early late .distance ≤ distance f t h
+      of-late : List·Memᴰ h (fs ++ (cur ∷ [])) → t ≤ h .time → chooseBy f t early late .between ≤ between f t h
       of-late n k = le-trans (chosen-no-farther f t early late .1) (late-nearest h n k)
 
-      by-order : List·Memᴰ h fs → (b : Bool) → leb (h .time) t ≡ b → chooseBy f t early late .distance ≤ distance f t h
+      by-order : List·Memᴰ h fs → (b : Bool) → leb (h .time) t ≡ b → chooseBy f t early late .between ≤ between f t h
       by-order n true k = of-early (List·Memᴰ·tail n) (leb-true (h .time) t k)
       by-order n false k = of-late (Memᴰ·append-left (cur ∷ []) n) (le-of-lt (leb-false (h .time) t k))
 
-      by-place : List·Memᴰ h fs ⊎ List·Memᴰ h (cur ∷ []) → chooseBy f t early late .distance ≤ distance f t h
+      by-place : List·Memᴰ h fs ⊎ List·Memᴰ h (cur ∷ []) → chooseBy f t early late .between ≤ between f t h
       by-place (inl n) = by-order n (leb (h .time) t) refl
       by-place (inr n) = of-late (Memᴰ·append-right fs n) (rw (List·Memᴰ·eq-of-singleton n) reaches)
 
-      by-cases : (h ≡ emptyTable) ⊎ List·Memᴰ h (fs ++ (cur ∷ [])) → chooseBy f t early late .distance ≤ distance f t h
+      by-cases : (h ≡ emptyTable) ⊎ List·Memᴰ h (fs ++ (cur ∷ [])) → chooseBy f t early late .between ≤ between f t h
       by-cases (inl e) = of-early (List·Memᴰ·head e) (rw e zero-le)
       by-cases (inr n) = by-place (List·Memᴰ·append-cases fs n)
 
   -- the outset chosen is a held table
   pub chosen-held : List·Memᴰ (chooseBy f t early late .outset) (emptyTable ∷ (fs ++ (cur ∷ [])))
   unfolding chooseBy
-  chosen-held = by-test (ltb (distance f t late) (distance f t early))
+  chosen-held = by-test (ltb (between f t late) (between f t early))
     where
       of-early : List·Memᴰ early (emptyTable ∷ (fs ++ (cur ∷ [])))
       of-early = Memᴰ·append-left (cur ∷ []) (latest-member t emptyTable fs)

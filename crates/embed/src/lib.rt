@@ -20,13 +20,13 @@ use numbered::answer::YkTable;
 use numbered::needed::YkLengths;
 use numbered::outset::YkView;
 
-// 0.1.0, as the header and the Rust crate have it: 65,536 × major + 256 × minor + patch.
-const VERSION: u32 = 256;
+// 0.2.0, as the header and the Rust crate have it: 65,536 × major + 256 × minor + patch.
+const VERSION: u32 = 512;
 
 // The version of the archive.
 #[no_mangle]
 pub extern "C" fn yk_version() -> u32
-    ensures { λ r. ⌜ r ≡ 0 * 65536 + 1 * 256 + 0 ⌝ }
+    ensures { λ r. ⌜ r ≡ 0 * 65536 + 2 * 256 + 0 ⌝ }
 {
     VERSION
 }

@@ -84,14 +84,15 @@ unfoldable pub positionOutcome : PositionAnswer → Outcome Position
 positionOutcome (position.At p) = answers p
 positionOutcome (position.Refused why) = refusal why
 
--- "Each table answer gives the number of rows, the side and the page distance"
+-- "Each table answer gives the number of rows, the side and the page distance", and now "requests between in place of
+-- page distance"
 pub record TableSaid : Type 0 where
   pub rows : ℕ
   pub side : Side
-  pub distance : ℕ
+  pub between : ℕ
 
 unfoldable pub tableOutcome : TableAnswer → Outcome TableSaid
-tableOutcome (table.Table rows side distance) = answers (record { rows = rows; side = side; distance = distance })
+tableOutcome (table.Table rows side between) = answers (record { rows = rows; side = side; between = between })
 tableOutcome (table.Refused why) = refusal why
 
 -- the same of the outset, and where its rows lie
@@ -99,10 +100,10 @@ pub record OutsetSaid : Type 0 where
   pub place : Place
   pub rows : ℕ
   pub side : Side
-  pub distance : ℕ
+  pub between : ℕ
 
 unfoldable pub viewOutcome : ViewAnswer → Outcome OutsetSaid
-viewOutcome (view.Outset place rows side distance) = answers (record { place = place; rows = rows; side = side; distance = distance })
+viewOutcome (view.Outset place rows side between) = answers (record { place = place; rows = rows; side = side; between = between })
 viewOutcome (view.Refused why) = refusal why
 
 -- "The call answers the number of entries"

@@ -1,9 +1,9 @@
 -- The mission's demands 2 and 3, the audit's exactness and what positions tell (02, wish 5), as statements over lists of
 -- calls, and the same of calls that are made by code (`Chains`). Which of them is proved, and where, is listed in
 -- docs/PROMISES.md. Demand 1 is the contracts of the calls. Assumes nothing.
-use Prim.Native.Nat.{ℕ, _+_, _*_, _≤_}
+use Prim.Native.Nat.{ℕ, _+_, _*_, _≤_, _<_}
 use mathlib.Core.Path.{_≡_}
-use mathlib.Core.Logic.{_⊎_, _↔_}
+use mathlib.Core.Logic.{_↔_}
 use mathlib.Core.List.{List, [], _∷_, List·Memᴰ}
 use mathlib.Core.Bool.{Bool, true, false, not, _&&_, _||_}
 use lib.ListN.{length, take}
@@ -19,7 +19,8 @@ use Rattle.model.specs.Tree.{Packed}
 use Rattle.model.specs.Pages.{indexNeed}
 use Rattle.model.specs.Memory.{Memory, State, Lendable, Passable, logOf, keysOf}
 use Rattle.model.specs.declared.Held.{Held}
-use Rattle.model.specs.Outset.{held, measure, earlierFor, laterFor}
+use Rattle.model.specs.Outset.{held, earlierFor, laterFor}
+use Rattle.model.specs.Between.{requestsBetween}
 use Rattle.model.specs.NetChange.{Change, netChangeBytes, leads}
 use Rattle.model.specs.Starts.{openOf}
 use Rattle.model.specs.Positions.{PageAndCount}
@@ -118,18 +119,16 @@ unfoldable pub candidate : State → ℕ → Side → Held
 candidate st t Earlier = earlierFor st t
 candidate st t Later = laterFor st t
 
--- d is the larger less the smaller of x and y: the smaller and d make the larger
-abbrev pub Apart : (d x y : ℕ) → Type 0
-Apart d x y = (x + d ≡ y) ⊎ (y + d ≡ x)
-
 -- "Every other outset then held lies at least as many log pages from the wanted time as the one used, whose distance
--- in pages is the one reported"
+-- in pages is the one reported", where "The promise that no held outset is nearer is then read in requests"
 pub record OutsetIsNearest (st : State) (t : ℕ) (table : Written TableSaid) : Type 0 where
   pub said : TableSaid
   pub answered : table .outcome ≡ answers said
   pub is-held : List·Memᴰ (candidate st t (said .side)) (held st)
-  pub reported : Apart (said .distance) (measure st t) (measure st (candidate st t (said .side) .time))
-  pub nearest : (h : Held) (d : ℕ) → List·Memᴰ h (held st) → Apart d (measure st t) (measure st (h .time)) → said .distance ≤ d
+  pub reported : said .between ≡ requestsBetween st t (candidate st t (said .side) .time)
+  pub nearest : (h : Held) → List·Memᴰ h (held st) → said .between ≤ requestsBetween st t (h .time)
+  -- "the earlier one on a tie"
+  pub later-nearer : said .side ≡ Later → said .between < requestsBetween st t (earlierFor st t .time)
 
 pub record DemandThree (st : State) : Type 0 where
   pub net-changes : (a b : ℕ) (out work : List ℕ) → a ≤ st .numbers .last → b ≤ st .numbers .last

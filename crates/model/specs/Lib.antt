@@ -10,6 +10,7 @@ pub mod Pages
 pub mod Memory
 pub mod Positions
 pub mod Outset
+pub mod Between
 pub mod NetChange
 pub mod Starts
 pub mod FirstWrong

@@ -1,5 +1,5 @@
--- Held tables and the choice of outset (01, "Table", "Count files"). `held`, `outsetFor` and `distance` are what
--- contracts and demand 3 cite; the measure of nearness is a parameter. Assumes nothing.
+-- Held tables and the choice of outset (01, "Table", "Count files"; 02, wish 6). `held` and `outsetFor` are what
+-- contracts and demand 3 cite; the measure of nearness is a parameter of the choice. Assumes nothing.
 use Prim.Native.Nat.{ℕ, suc, _-_, max, min}
 use mathlib.Core.List.{List, [], _∷_, _++_}
 use mathlib.Core.Bool.{cond, _&&_}
@@ -54,25 +54,25 @@ laterFor st t = earliest t (currentTable st) (filesHeld st)
 
 -- ---- nearness
 
--- "the larger less the smaller of two page positions"
+-- "the larger less the smaller" of two numbers
 abbrev pub apart : ℕ → ℕ → ℕ
 apart x y = max x y - min x y
 
--- what nearness is measured in: the pages of positions
+-- what nearness is measured in: "Nearness counted in requests"
 abbrev pub measure : State → ℕ → ℕ
-measure st t = positionAt st t .page .0
+measure st t = positionAt st t .requests
 
--- the distance of a held table from t
-abbrev pub distance : (ℕ → ℕ) → ℕ → Held → ℕ
-distance f t h = apart (f t) (f (h .time))
+-- what lies between a held table and t: with that measure, the "requests between"
+abbrev pub between : (ℕ → ℕ) → ℕ → Held → ℕ
+between f t h = apart (f t) (f (h .time))
 
--- the outset used, with its side and its distance
+-- the outset used, with its side and what lies between
 abbrev pub chosen : (ℕ → ℕ) → ℕ → Held → Side → Chosen
-chosen f t h side = record { outset = h; side = side; distance = distance f t h }
+chosen f t h side = record { outset = h; side = side; between = between f t h }
 
--- "The later one is used only if its page distance … is strictly smaller"
+-- "the one with fewest requests between it and the wanted time, and the earlier one on a tie"
 unfoldable pub chooseBy : (ℕ → ℕ) → ℕ → Held → Held → Chosen
-chooseBy f t early late = cond (ltb (distance f t late) (distance f t early)) (chosen f t late Later) (chosen f t early Earlier)
+chooseBy f t early late = cond (ltb (between f t late) (between f t early)) (chosen f t late Later) (chosen f t early Earlier)
 
 abbrev pub outsetFor : State → ℕ → Chosen
 outsetFor st t = chooseBy (measure st) t (earlierFor st t) (laterFor st t)

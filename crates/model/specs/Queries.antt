@@ -45,7 +45,7 @@ tableQuestions st t out = standing st ++ (timeHeld st t ∷ question 13 (leb (8 
 
 abbrev pub tableSaid : State → ℕ → TableSaid
 tableSaid st t =
-    record { rows = length (rowsAt st t); side = outsetFor st t .side; distance = outsetFor st t .distance }
+    record { rows = length (rowsAt st t); side = outsetFor st t .side; between = outsetFor st t .between }
 
 unfoldable pub tableOf : State → ℕ → List ℕ → Written TableSaid
 tableOf st t out =
@@ -73,7 +73,7 @@ viewOf st t =
     let h = c .outset in
     unlessNo (firstNo (timeQuestions st t))
     (record {
-      outcome = answers (record { place = h .place; rows = h .rows; side = c .side; distance = c .distance });
+      outcome = answers (record { place = h .place; rows = h .rows; side = c .side; between = c .between });
       rows = rowsPart (st .numbers .limit) (st .memory) (h .place) (h .rows);
     })
     (λ k. record { outcome = refuses k; rows = take 0 (st .memory .table) })

@@ -114,7 +114,7 @@ pub enum TableAnswer {
     Table {
         rows: u32,
         side: Side,
-        distance: u32,
+        between: u32,
     },
     Refused(Refusal),
 }
@@ -133,11 +133,11 @@ pub struct Held {
     pub rows: u32,
 }
 
-// The outset used for a time, its side and its distance (01's page distance; a count of pages, no position).
+// The outset used for a time, its side and the requests between the two, an update counting two.
 pub struct Chosen {
     pub outset: Held,
     pub side: Side,
-    pub distance: u32,
+    pub between: u32,
 }
 
 pub enum ViewAnswer {
@@ -145,7 +145,7 @@ pub enum ViewAnswer {
         place: Place,
         rows: u32,
         side: Side,
-        distance: u32,
+        between: u32,
     },
     Refused(Refusal),
 }

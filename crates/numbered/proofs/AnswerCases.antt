@@ -52,25 +52,25 @@ unplaced : positionOut (position.Refused TimeAfterLast) ≡ record { question = 
 unfolding positionOut questionOf refusal
 unplaced = refl
 
-later : tableOut (table.Table 11 Later 13) ≡ record { question = 0; rows = 11; later = 1; distance = 13 }
+later : tableOut (table.Table 11 Later 13) ≡ record { question = 0; rows = 11; later = 1; between = 13 }
 unfolding tableOut laterOf
 later = refl
 
 -- R = 4, 100 bytes of areas, a table of 32: file 2 with 3 rows, its part bytes 64 to 87
-in-area : viewOut 4 100 32 (view.Outset (Area 2) 3 Later 5) ≡ record { question = 0; place = 1; area = 2; rows = 3; later = 1; distance = 5; start = 64; length = 24 }
+in-area : viewOut 4 100 32 (view.Outset (Area 2) 3 Later 5) ≡ record { question = 0; place = 1; area = 2; rows = 3; later = 1; between = 5; start = 64; length = 24 }
 unfolding viewOut spanOf placeOut areaOut laterOf
 in-area = refl
 
 -- the last area lent is cut
-cut : viewOut 4 100 32 (view.Outset (Area 3) 6 Earlier 5) ≡ record { question = 0; place = 1; area = 3; rows = 6; later = 0; distance = 5; start = 96; length = 4 }
+cut : viewOut 4 100 32 (view.Outset (Area 3) 6 Earlier 5) ≡ record { question = 0; place = 1; area = 3; rows = 6; later = 0; between = 5; start = 96; length = 4 }
 unfolding viewOut spanOf placeOut areaOut laterOf
 cut = refl
 
-in-table : viewOut 4 100 32 (view.Outset Current 3 Later 5) ≡ record { question = 0; place = 2; area = 0; rows = 3; later = 1; distance = 5; start = 0; length = 24 }
+in-table : viewOut 4 100 32 (view.Outset Current 3 Later 5) ≡ record { question = 0; place = 2; area = 0; rows = 3; later = 1; between = 5; start = 0; length = 24 }
 unfolding viewOut spanOf placeOut areaOut laterOf
 in-table = refl
 
-empty : viewOut 4 100 32 (view.Outset Empty 0 Earlier 5) ≡ record { question = 0; place = 0; area = 0; rows = 0; later = 0; distance = 5; start = 0; length = 0 }
+empty : viewOut 4 100 32 (view.Outset Empty 0 Earlier 5) ≡ record { question = 0; place = 0; area = 0; rows = 0; later = 0; between = 5; start = 0; length = 0 }
 unfolding viewOut spanOf placeOut areaOut laterOf
 empty = refl
 

@@ -47,16 +47,16 @@ pub span-part : (R : ℕ) (areas current : List ℕ) (answer : ViewAnswer)
     → let r = viewOut R (length areas) (length current) answer in
     viewedPart R areas current answer ≡ part (r .start) (r .length) (cond (eqb (r .place) 1) areas current)
 unfolding viewOut viewedPart rowsPart spanOf placeOut
-span-part R areas current (Outset Empty rows side distance) = refl
-span-part R areas current (Outset (Area i) rows side distance) = sym (part-cut (8 * R * i) (8 * rows) areas)
-span-part R areas current (Outset Current rows side distance) = sym (take-cut (8 * rows) current)
+span-part R areas current (Outset Empty rows side between) = refl
+span-part R areas current (Outset (Area i) rows side between) = sym (part-cut (8 * R * i) (8 * rows) areas)
+span-part R areas current (Outset Current rows side between) = sym (take-cut (8 * rows) current)
 span-part R areas current (Refused why) = refl
 
 -- on any memory it lies within its region
 pub span-within : (R : ℕ) (areas current : List ℕ) (answer : ViewAnswer)
     → let r = viewOut R (length areas) (length current) answer in r .start + r .length ≤ length (cond (eqb (r .place) 1) areas current)
 unfolding viewOut spanOf placeOut
-span-within R areas current (Outset Empty rows side distance) = omega arith
-span-within R areas current (Outset (Area i) rows side distance) = omega arith
-span-within R areas current (Outset Current rows side distance) = omega arith
+span-within R areas current (Outset Empty rows side between) = omega arith
+span-within R areas current (Outset (Area i) rows side between) = omega arith
+span-within R areas current (Outset Current rows side between) = omega arith
 span-within R areas current (Refused why) = omega arith

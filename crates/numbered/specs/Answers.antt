@@ -42,8 +42,8 @@ laterOf Earlier = 0
 laterOf Later = 1
 
 unfoldable pub tableOut : TableAnswer → YkTable
-tableOut (table.Table rows side distance) = record { question = 0; rows = rows; later = laterOf side; distance = distance }
-tableOut (table.Refused why) = record { question = numberOf why; rows = 0; later = 0; distance = 0 }
+tableOut (table.Table rows side between) = record { question = 0; rows = rows; later = laterOf side; between = between }
+tableOut (table.Refused why) = record { question = numberOf why; rows = 0; later = 0; between = 0 }
 
 -- ---- the view
 
@@ -68,19 +68,19 @@ spanOf R areas current (Area i) rows = let at = min (8 * R * i) areas in span at
 spanOf R areas current Current rows = span 0 (min (8 * rows) current)
 
 unfoldable pub viewOut : (R areas current : ℕ) → ViewAnswer → YkView
-viewOut R areas current (view.Outset place rows side distance) =
+viewOut R areas current (view.Outset place rows side between) =
     record {
       question = 0;
       place = placeOut place;
       area = areaOut place;
       rows = rows;
       later = laterOf side;
-      distance = distance;
+      between = between;
       start = spanOf R areas current place rows .start;
       length = spanOf R areas current place rows .length;
     }
 viewOut R areas current (view.Refused why) =
-    record { question = numberOf why; place = 0; area = 0; rows = 0; later = 0; distance = 0; start = 0; length = 0 }
+    record { question = numberOf why; place = 0; area = 0; rows = 0; later = 0; between = 0; start = 0; length = 0 }
 
 -- ---- net change and audit
 

@@ -36,7 +36,7 @@ pub struct YkTable {
     pub question: u8,
     pub rows: u32,
     pub later: u8,
-    pub distance: u32,
+    pub between: u32,
 }
 
 #[repr(C)]
@@ -155,18 +155,18 @@ pub fn table_out(answer: TableAnswer) -> YkTable
         TableAnswer::Table {
             rows,
             side,
-            distance,
+            between,
         } => YkTable {
             question: 0,
             rows,
             later: later_of(side),
-            distance,
+            between,
         },
         TableAnswer::Refused(why) => YkTable {
             question: question(why),
             rows: 0,
             later: 0,
-            distance: 0,
+            between: 0,
         },
     }
 }

@@ -8,7 +8,7 @@ use model::Place;
 use model::ViewAnswer;
 
 // The answer of a view: the outset's place (0 empty, 1 an area, 2 the current table), the number of its area, its rows, side
-// and distance; and the part that its rows are, in bytes of the areas or of the current table.
+// and the requests between; and the part that its rows are, in bytes of the areas or of the current table.
 #[repr(C)]
 pub struct YkView {
     pub question: u8,
@@ -16,7 +16,7 @@ pub struct YkView {
     pub area: u32,
     pub rows: u32,
     pub later: u8,
-    pub distance: u32,
+    pub between: u32,
     pub start: usize,
     pub length: usize,
 }
@@ -88,7 +88,7 @@ pub fn view_out(limit: u32, areas: usize, current: usize, answer: ViewAnswer) ->
             place,
             rows,
             side,
-            distance,
+            between,
         } => {
             let span = span_of(limit, areas, current, place, rows);
             YkView {
@@ -97,7 +97,7 @@ pub fn view_out(limit: u32, areas: usize, current: usize, answer: ViewAnswer) ->
                 area: area_out(place),
                 rows,
                 later: later_of(side),
-                distance,
+                between,
                 start: span.start,
                 length: span.length,
             }
@@ -108,7 +108,7 @@ pub fn view_out(limit: u32, areas: usize, current: usize, answer: ViewAnswer) ->
             area: 0,
             rows: 0,
             later: 0,
-            distance: 0,
+            between: 0,
             start: 0,
             length: 0,
         },

@@ -1,5 +1,5 @@
 // The outset used for a time (01, "Count files"): the nearest held table at or before it, or the nearest at or after it where
-// that one is strictly nearer in pages.
+// fewer requests lie between.
 ghost use Prim.Native.Nat.{_+_, _*_, _≤_};
 ghost use mathlib.Core.Path.{_≡_};
 ghost use lib.ListN.{length};
@@ -20,14 +20,14 @@ pub struct Used {
     pub at: Position,
 }
 
-// The larger less the smaller of two positions' pages.
+// The requests between two positions: the larger count less the smaller.
 fn apart(x: Position, y: Position) -> u32
-    ensures { λ r. ⌜ r ≡ outset.apart (x .page .0) (y .page .0) ⌝ }
+    ensures { λ r. ⌜ r ≡ outset.apart (x .requests) (y .requests) ⌝ }
 {
-    if x.page.0 < y.page.0 {
-        return y.page.0 - x.page.0;
+    if x.requests < y.requests {
+        return y.requests - x.requests;
     }
-    x.page.0 - y.page.0
+    x.requests - y.requests
 }
 
 // The position of a time, where that of t is known.
@@ -43,7 +43,7 @@ fn position_of(log: &[u8], index: &[u64], s: Numbers, time: u64, t: u64, here: P
     pages::position(log, index, s, time)
 }
 
-// The outset used for t, whose position is `here`: the later candidate only where it is strictly nearer.
+// The outset used for t, whose position is `here`: the later candidate only where strictly fewer requests lie between.
 pub fn choose(log: &[u8], index: &[u64], s: Numbers, c: Catalogue, t: u64, here: Position) -> Used
     requires { ⌜ Indexed (s .order) (s .page) (s .records) (length (now index)) ⌝ }
     requires { ⌜ 24 + 24 * s .records ≤ length (now log) ⌝ }
@@ -67,7 +67,7 @@ pub fn choose(log: &[u8], index: &[u64], s: Numbers, c: Catalogue, t: u64, here:
             chosen: Chosen {
                 outset: late,
                 side: Side::Later,
-                distance: ahead,
+                between: ahead,
             },
             at: after,
         };
@@ -76,7 +76,7 @@ pub fn choose(log: &[u8], index: &[u64], s: Numbers, c: Catalogue, t: u64, here:
         chosen: Chosen {
             outset: early,
             side: Side::Earlier,
-            distance: back,
+            between: back,
         },
         at: before,
     }

@@ -50,7 +50,7 @@ fn list_time(
     let TableAnswer::Table {
         rows,
         side,
-        distance: _,
+        between: _,
     } = tables::table(s, log, index, current, no_files(), none, t, out)
     else {
         return Listed { at, requests: 0 };

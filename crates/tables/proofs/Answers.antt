@@ -90,7 +90,7 @@ module _ (st : State) (t : ℕ) (out : List ℕ) where
   pub table-answers : (c : Catalogue) (w : Worked) {ys : List ℕ} → sound st ≡ true → t ≤ st .numbers .last → 8 * st .numbers .limit ≤ length out → length ys ≡ 8 * st .numbers .limit
       → Loaded (st .memory .catalogue) (st .numbers .files) c
       → WorkedOut (st .numbers) (st .memory .log) (st .memory .index) (st .memory .table) (st .memory .areas) c t w ys
-      → TablePromise st t out (answers (record { rows = w .rows; side = w .side; distance = w .distance })) (putMid 0 (8 * st .numbers .limit - 0) out ys)
+      → TablePromise st t out (answers (record { rows = w .rows; side = w .side; between = w .between })) (putMid 0 (8 * st .numbers .limit - 0) out ys)
   unfolding tableOf firstNo isRefused
   table-answers c w {ys} q h room l has worked =
       let size = 8 * st .numbers .limit in
@@ -116,7 +116,7 @@ module _ (st : State) (t : ℕ) where
 
   pub view-answers : (c : Catalogue) (u : Used) → sound st ≡ true → t ≤ st .numbers .last → Loaded (st .memory .catalogue) (st .numbers .files) c
       → NearestIs (st .numbers) c t (st .memory .log) (st .memory .index) u
-      → let h = u .chosen .outset in ViewPromise st t (answers (record { place = h .place; rows = h .rows; side = u .chosen .side; distance = u .chosen .distance }))
+      → let h = u .chosen .outset in ViewPromise st t (answers (record { place = h .place; rows = h .rows; side = u .chosen .side; between = u .chosen .between }))
       (rowsPart (st .numbers .limit) (lent (st .memory .areas) (st .memory .table)) (h .place) (h .rows))
   unfolding viewOf firstNo
   view-answers c u q h has near =

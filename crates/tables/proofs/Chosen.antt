@@ -22,13 +22,12 @@ use Rattle.model.specs.Numbering.{nodeWord}
 use Rattle.model.specs.Tree.{Packed}
 use Rattle.model.specs.Memory.{State, logOf, keysOf}
 use Rattle.model.specs.Positions.{positionAt}
-use Rattle.model.specs.Outset.{emptyTable, currentTable, filesFrom, filesHeld, held, distance, measure, earlierFor, laterFor, chosen, chooseBy, outsetFor}
+use Rattle.model.specs.Outset.{emptyTable, currentTable, filesFrom, filesHeld, held, between, measure, earlierFor, laterFor, chosen, chooseBy, outsetFor}
 use Rattle.model.specs.Queries.{rowsPart}
 use Rattle.model.specs.Files.{filesIn}
 use Rattle.model.specs.Facts.{FileIs, FilesAre, AuditedFacts}
 use Rattle.model.proofs.TimeLaws.{timeslice-rows, timeslice-zero}
 use Rattle.model.proofs.UpToLaws.{records-up-to-le}
-use Rattle.model.proofs.KeyLaws.{page-position-le}
 use Rattle.model.proofs.PageLaws.{length-page-times}
 use Rattle.model.proofs.RecordLaws.{length-records}
 use Rattle.tree.proofs.Written.{with-packed}
@@ -118,19 +117,19 @@ module _ (st : State) (f : AuditedFacts st) where
 
 -- ---- the outset chosen
 
--- positions never fall
-pages-rise : (st : State) (x y : ℕ) → x ≤ y → measure st x ≤ measure st y
-pages-rise st = page-position-le (keysOf st)
+-- request counts never fall
+requests-rise : (st : State) (x y : ℕ) → x ≤ y → measure st x ≤ measure st y
+requests-rise st x y h = records-up-to-le x y (logOf st) h
 
 pub chosen-holds : (st : State) (f : AuditedFacts st) (t : ℕ) → t ≤ st .numbers .last → Holds st (outsetFor st t .outset)
 chosen-holds st f t h =
-    holds-held st f (outsetFor st t .outset) (chosen-held (measure st) (pages-rise st) t (currentTable st) (filesHeld st) h)
+    holds-held st f (outsetFor st t .outset) (chosen-held (measure st) (requests-rise st) t (currentTable st) (filesHeld st) h)
 
 -- the earlier one's records end before those up to t, the later one's after them
 pub chosen-on-side : (st : State) (t : ℕ) → t ≤ st .numbers .last
     → OnSide (outsetFor st t .side) (recordsUpTo (outsetFor st t .outset .time) (logOf st)) (recordsUpTo t (logOf st))
 unfolding chooseBy OnSide
-chosen-on-side st t h = by (ltb (distance (measure st) t (laterFor st t)) (distance (measure st) t (earlierFor st t)))
+chosen-on-side st t h = by (ltb (between (measure st) t (laterFor st t)) (between (measure st) t (earlierFor st t)))
   where
     by : (b : Bool) → let c = cond b (chosen (measure st) t (laterFor st t) Later) (chosen (measure st) t (earlierFor st t) Earlier) in
         OnSide (c .side) (recordsUpTo (c .outset .time) (logOf st)) (recordsUpTo t (logOf st))

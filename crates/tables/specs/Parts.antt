@@ -14,5 +14,5 @@ lent areas current = record { log = []; index = []; table = current; catalogue =
 
 -- the rows that an answer names; a refused view's part is the empty one at the front of the current table
 unfoldable pub viewedPart : ℕ → List ℕ → List ℕ → ViewAnswer → List ℕ
-viewedPart R areas current (Outset place rows side distance) = rowsPart R (lent areas current) place rows
+viewedPart R areas current (Outset place rows side between) = rowsPart R (lent areas current) place rows
 viewedPart R areas current (Refused why) = take 0 current

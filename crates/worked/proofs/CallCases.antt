@@ -36,7 +36,7 @@ each-answers : map (answerOf roomy)
     ∷ Call.table 45 (replicate 33 77) ∷ Call.view 20 ∷ Call.netChange 20 45 (replicate 97 77) (replicate 65 77) ∷ Call.keep 40 ∷ Call.keep 20
     ∷ Call.drop 20 ∷ Call.drop 40 ∷ Call.audit ∷ [])
     ≡ changed (answers tt) ∷ changed (refuses 7) ∷ changed (answers tt) ∷ changed (refuses 8) ∷ changed (answers tt) ∷ changed (refuses 6) ∷ positioned (located 1 4)
-    ∷ positioned (refuses 12) ∷ written (told 1 Later 1 table45)
+    ∷ positioned (refuses 12) ∷ written (told 1 Earlier 3 table45)
     ∷ viewed (seen (Area 0) 2 Earlier 0 (3 ∷ 0 ∷ 0 ∷ 0 ∷ 12 ∷ 0 ∷ 0 ∷ 0 ∷ 7 ∷ 0 ∷ 0 ∷ 0 ∷ 50 ∷ 0 ∷ 0 ∷ 0 ∷ []))
     ∷ netted (changes 3 change20to45 (table20 ++ table45)) ∷ changed (answers tt) ∷ changed (refuses 14) ∷ changed (answers tt) ∷ changed (refuses 16)
     ∷ audited true ∷ []

@@ -11,5 +11,6 @@ pub mod PositionCases
 pub mod QuestionCases
 pub mod QueryCases
 pub mod MemoryCases
+pub mod OutsetCases
 pub mod AuditCases
 pub mod CallCases

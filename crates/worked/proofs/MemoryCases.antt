@@ -126,7 +126,7 @@ apart-both : (apart 1 3 ∷ apart 3 1 ∷ apart 2 2 ∷ []) ≡ 2 ∷ 2 ∷ 0 �
 unfolding computing
 apart-both = refl
 
--- a kept time answers from itself, earlier, distance 0; the part is its rows and no zeros, and of a file with no row the
+-- a kept time answers from itself, earlier, with no request between; the part is its rows and no zeros, and of a file with no row the
 -- empty part
 from-itself : map (viewOf three) (40 ∷ 20 ∷ 5 ∷ [])
     ≡ seen (Area 2) 1 Earlier 0 (7 ∷ 0 ∷ 0 ∷ 0 ∷ 44 ∷ 0 ∷ 0 ∷ 0 ∷ [])
@@ -134,23 +134,23 @@ from-itself : map (viewOf three) (40 ∷ 20 ∷ 5 ∷ [])
 unfolding computing
 from-itself = refl
 
--- nearest in time on its side, though time 0 and time 5 are as near in pages
-nearest-in-time : viewOf three 25 ≡ seen (Area 1) 2 Earlier 0 (3 ∷ 0 ∷ 0 ∷ 0 ∷ 12 ∷ 0 ∷ 0 ∷ 0 ∷ 7 ∷ 0 ∷ 0 ∷ 0 ∷ 50 ∷ 0 ∷ 0 ∷ 0 ∷ [])
+-- nearest in time on its side, though no request lies between time 0 and 7 either
+nearest-in-time : viewOf three 7 ≡ seen (Area 0) 0 Earlier 0 []
 unfolding computing
 nearest-in-time = refl
 
--- "Choosing by nearness in time" would be wrong: 39 is a tie of 1 between 20 and 40, and starts from 20
-not-by-time : viewOf three 39 .outcome ≡ answers (record { place = Area 1; rows = 2; side = Earlier; distance = 1 })
+-- "Choosing by nearness in time" would be wrong: 59 has one request after 40 and two up to 60, and starts from 40
+not-by-time : viewOf three 59 .outcome ≡ answers (record { place = Area 2; rows = 1; side = Earlier; between = 1 })
 unfolding computing
 not-by-time = refl
 
 -- "A count file at the last time goes before the current table"; without it the current table is used
-file-at-last : (viewOf (keepOf wide 60 .state) 50 ∷ viewOf wide 50 ∷ []) ≡ seen (Area 0) 2 Later 1 rows60 ∷ seen Current 2 Later 1 rows60 ∷ []
+file-at-last : (viewOf (keepOf wide 60 .state) 50 ∷ viewOf wide 50 ∷ []) ≡ seen (Area 0) 2 Later 2 rows60 ∷ seen Current 2 Later 2 rows60 ∷ []
 unfolding computing
 file-at-last = refl
 
--- the last time of a log of one page is a tie of 0, and starts from time 0
-one-page : viewOf (pair 0 0) 20 ≡ seen Empty 0 Earlier 0 []
+-- no request lies between the last time and the current table, on whatever page
+one-page : viewOf (pair 0 0) 20 ≡ seen Current 2 Later 0 (5 ∷ 0 ∷ 0 ∷ 0 ∷ 8 ∷ 0 ∷ 0 ∷ 0 ∷ 6 ∷ 0 ∷ 0 ∷ 0 ∷ 9 ∷ 0 ∷ 0 ∷ 0 ∷ [])
 unfolding computing
 one-page = refl
 
@@ -163,7 +163,7 @@ none-answers : viewOf none 0 ≡ seen Empty 0 Earlier 0 []
 unfolding computing
 none-answers = refl
 
-none-table : tableOf none 0 (replicate 9 3) ≡ record { outcome = answers (record { rows = 0; side = Earlier; distance = 0 }); output = zeros 8 ++ (3 ∷ []) }
+none-table : tableOf none 0 (replicate 9 3) ≡ record { outcome = answers (record { rows = 0; side = Earlier; between = 0 }); output = zeros 8 ++ (3 ∷ []) }
 unfolding computing
 none-table = refl
 

@@ -1,5 +1,5 @@
--- 01's log by hand ("One log by hand") as a state, and the cases that 01 marks P as one test over one list, computed on
--- the definitions that the calls' contracts cite. Outputs are longer than asked: "what lies past them is unchanged".
+-- 01's log by hand ("One log by hand") as a state, and the cases that 01 marks P as one test over one list, those of outsets
+-- as 02 has them (wish 6), computed on the definitions that the calls' contracts cite. Outputs are longer than asked: "what lies past them is unchanged".
 -- Assumes nothing.
 use Prim.Native.Nat.{ℕ}
 use mathlib.Core.Path.{_≡_, refl}
@@ -12,12 +12,12 @@ use Rattle.model.specs.declared.Position.{Position}
 use Rattle.model.specs.declared.Side.{Side}
 use Rattle.model.specs.declared.Side.the-variants.{Earlier, Later}
 use Rattle.model.specs.declared.Place.{Place}
-use Rattle.model.specs.declared.Place.the-variants.{Empty, Current}
+use Rattle.model.specs.declared.Place.the-variants.{Area}
 use Rattle.worked.proofs.Computing.{computing}
 use Rattle.model.specs.Answers.{Outcome, answers, TableSaid}
 use Rattle.model.specs.Records.{Rec, insertion, deletion, recordsBytes, records, headerBytes}
 use Rattle.model.specs.Memory.{Memory, State, state}
-use Rattle.model.specs.Outset.{distance, measure, earlierFor, laterFor}
+use Rattle.model.specs.Outset.{between, measure, earlierFor, laterFor}
 use Rattle.model.specs.Queries.{positionOf, Written, tableOf, Viewed, viewOf, Netted, netOf}
 use Rattle.model.specs.Files.{keepOf}
 
@@ -59,7 +59,7 @@ data Ask : Type 0 where
   net : (a b : ℕ) → Ask
   outset : (kept t : ℕ) → Ask
 
--- an outset: what the view hands back, what the table call leaves, and the distances of the two candidates
+-- an outset: what the view hands back, what the table call leaves, and the requests between of the two candidates
 data Result : Type 0 where
   at : Outcome Position → Result
   written : Written TableSaid → Result
@@ -72,7 +72,7 @@ record Case : Type 0 where
 
 abbrev outsetIn : State → ℕ → Result
 outsetIn st t =
-    started (viewOf st t) (tableOf st t (replicate 33 77)) (distance (measure st) t (earlierFor st t)) (distance (measure st) t (laterFor st t))
+    started (viewOf st t) (tableOf st t (replicate 33 77)) (between (measure st) t (earlierFor st t)) (between (measure st) t (laterFor st t))
 
 abbrev answer : Ask → Result
 answer (position t) = at (positionOf worked t)
@@ -106,26 +106,28 @@ abbrev pub located : (page requests : ℕ) → Outcome Position
 located page requests = answers (record { page = record { 0 = page }; requests = requests })
 
 abbrev pub told : ℕ → Side → ℕ → List ℕ → Written TableSaid
-told k side far out = record { outcome = answers (record { rows = k; side = side; distance = far }); output = out ++ (77 ∷ []) }
+told k side n out = record { outcome = answers (record { rows = k; side = side; between = n }); output = out ++ (77 ∷ []) }
 
 abbrev pub changes : ℕ → List ℕ → List ℕ → Netted
 changes k out work = record { outcome = answers k; output = out ++ (77 ∷ []); workspace = work ++ (77 ∷ []) }
 
 abbrev pub seen : Place → ℕ → Side → ℕ → List ℕ → Viewed
-seen place k side far part = record { outcome = answers (record { place = place; rows = k; side = side; distance = far }); rows = part }
+seen place k side n part = record { outcome = answers (record { place = place; rows = k; side = side; between = n }); rows = part }
 
--- each marked P in 01, a position with its requests
+-- each marked P in 01, a position with its requests. The two outsets are those that 02 changes: "45 with 20 kept is now a
+-- tie of three and starts from 20, and 30 with only 40 kept starts from 40"
 cases : List Case
 cases =
     case (position 0) (at (located 0 0)) ∷ case (position 29) (at (located 0 2)) ∷ case (position 30) (at (located 1 4))
     ∷ case (position 35) (at (located 1 4)) ∷ case (position 40) (at (located 2 5)) ∷ case (position 60) (at (located 3 8))
-    ∷ case (tableFor 20) (written (told 2 Earlier 0 table20))
-    ∷ case (tableFor 30) (written (told 2 Earlier 1 table30))
-    ∷ case (tableFor 45) (written (told 1 Later 1 table45))
+    ∷ case (tableFor 20) (written (told 2 Earlier 2 table20))
+    ∷ case (tableFor 30) (written (told 2 Earlier 4 table30))
+    ∷ case (tableFor 45) (written (told 1 Later 3 table45))
     ∷ case (net 20 45) (netted (changes 3 change20to45 (table20 ++ table45)))
     ∷ case (net 30 35) (netted (changes 0 (zeros 96) (table30 ++ table30)))
-    ∷ case (outset 20 45) (started (seen Current 2 Later 1 (7 ∷ 0 ∷ 0 ∷ 0 ∷ 44 ∷ 0 ∷ 0 ∷ 0 ∷ 9 ∷ 0 ∷ 0 ∷ 0 ∷ 6 ∷ 0 ∷ 0 ∷ 0 ∷ [])) (told 1 Later 1 table45) 2 1)
-    ∷ case (outset 40 30) (started (seen Empty 0 Earlier 1 []) (told 2 Earlier 1 table30) 1 1)
+    ∷ case (outset 20 45)
+      (started (seen (Area 0) 2 Earlier 3 (3 ∷ 0 ∷ 0 ∷ 0 ∷ 12 ∷ 0 ∷ 0 ∷ 0 ∷ 7 ∷ 0 ∷ 0 ∷ 0 ∷ 50 ∷ 0 ∷ 0 ∷ 0 ∷ [])) (told 1 Earlier 3 table45) 3 3)
+    ∷ case (outset 40 30) (started (seen (Area 0) 1 Later 1 (7 ∷ 0 ∷ 0 ∷ 0 ∷ 44 ∷ 0 ∷ 0 ∷ 0 ∷ [])) (told 2 Later 1 table30) 4 1)
     ∷ []
 
 worked-cases : map (λ (c : Case). answer (c .ask)) cases ≡ map (λ (c : Case). c .expected) cases
