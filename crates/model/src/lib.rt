@@ -111,11 +111,7 @@ pub enum Side {
 }
 
 pub enum TableAnswer {
-    Table {
-        rows: u32,
-        side: Side,
-        between: u32,
-    },
+    Table { rows: u32, side: Side, between: u32 },
     Refused(Refusal),
 }
 

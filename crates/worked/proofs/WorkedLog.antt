@@ -4,7 +4,7 @@
 use Prim.Native.Nat.{ℕ}
 use mathlib.Core.Path.{_≡_, refl}
 use mathlib.Core.List.{List, [], _∷_, _++_, map}
-use lib.ListN.{replicate}
+use lib.ListN.{replicate, take}
 use Rattle.codec.specs.Parts.{zeros}
 use Rattle.model.specs.declared.Numbers.{Numbers}
 use Rattle.model.specs.declared.Entry.{Entry}
@@ -125,9 +125,8 @@ cases =
     ∷ case (tableFor 45) (written (told 1 Later 3 table45))
     ∷ case (net 20 45) (netted (changes 3 change20to45 (table20 ++ table45)))
     ∷ case (net 30 35) (netted (changes 0 (zeros 96) (table30 ++ table30)))
-    ∷ case (outset 20 45)
-      (started (seen (Area 0) 2 Earlier 3 (3 ∷ 0 ∷ 0 ∷ 0 ∷ 12 ∷ 0 ∷ 0 ∷ 0 ∷ 7 ∷ 0 ∷ 0 ∷ 0 ∷ 50 ∷ 0 ∷ 0 ∷ 0 ∷ [])) (told 1 Earlier 3 table45) 3 3)
-    ∷ case (outset 40 30) (started (seen (Area 0) 1 Later 1 (7 ∷ 0 ∷ 0 ∷ 0 ∷ 44 ∷ 0 ∷ 0 ∷ 0 ∷ [])) (told 2 Later 1 table30) 4 1)
+    ∷ case (outset 20 45) (started (seen (Area 0) 2 Earlier 3 (take 16 table20)) (told 1 Earlier 3 table45) 3 3)
+    ∷ case (outset 40 30) (started (seen (Area 0) 1 Later 1 (take 8 table45)) (told 2 Later 1 table30) 4 1)
     ∷ []
 
 worked-cases : map (λ (c : Case). answer (c .ask)) cases ≡ map (λ (c : Case). c .expected) cases
