@@ -1,19 +1,71 @@
 -- The requests between two times (02, wish 6): in every memory the larger less the smaller of two request counts is the number
 -- of records between, and the outset used is the one with fewest, the earlier on a tie. Assumes nothing.
-use Prim.Native.Nat.{ℕ, suc, _+_, _-_, _≤_, _<_, max, min}
-use mathlib.Core.Path.{_≡_, refl, ap, sym, _∙_}
-use mathlib.Core.List.{List, [], _∷_}
+use Prim.Native.Nat.{ℕ, _+_, _≤_, _<_, max, min}
+use mathlib.Core.Path.{_≡_, refl}
+use mathlib.Core.List.{List, [], _∷_, _++_}
 use mathlib.Core.Bool.{Bool, true, false}
 use native.Mathlib.Omega.{arith}
-use lib.ListN.{length}
-use lib.Dec.{leb, ltb}
-use borrow.Author.Tests.{le-leb, lt-leb, lt-ltb, le-ltb, leb-true, leb-false}
-use Rattle.model.specs.Records.{Rec}
+use lib.ListN.{length, replicate}
+use lib.Dec.{leb}
+use borrow.Author.Tests.{lt-ltb, le-ltb, leb-true, leb-false}
+use Rattle.codec.specs.LittleEndian.{number, bytes}
+use Rattle.model.specs.declared.Entry.{Entry}
+use Rattle.model.specs.declared.Held.{Held}
+use Rattle.model.specs.declared.Side.the-variants.{Earlier, Later}
+use Rattle.model.specs.declared.Place.the-variants.{Area}
+use Rattle.model.specs.Records.{Rec, insertion, deletion, recordBytes, recordsBytes, recordIn, records}
 use Rattle.model.specs.Timeslice.{upTo}
-use Rattle.model.specs.Pages.{recordsUpTo}
-use Rattle.model.specs.Memory.{State, logOf}
-use Rattle.model.specs.Outset.{apart, between, measure, chooseBy, earlierFor, laterFor}
+use Rattle.model.specs.Pages.{pageTimesFrom, recordsUpTo}
+use Rattle.model.specs.Tree.{keysUpTo}
+use Rattle.model.specs.Memory.{State, state, logOf}
+use Rattle.model.specs.Outset.{filesFrom, latest, earliest, apart, between, measure, chosen, chooseBy, earlierFor, laterFor, outsetFor}
 use Rattle.model.specs.Between.{recordsBetween, requestsBetween, CountsBetween, FewestChosen}
+
+-- ---- 01's log, computed: requests up to 10, 20, 30, 40, 50, 60 are 1, 2, 4, 5, 6, 8
+
+abbrev workedLog : List Rec
+workedLog =
+    insertion 0 10 7 50 ∷ insertion 1 20 3 12 ∷ deletion 2 30 7 50 ∷ insertion 3 30 7 44 ∷ deletion 4 40 3 12 ∷ insertion 5 50 9 5
+    ∷ deletion 6 60 9 5 ∷ insertion 7 60 9 6 ∷ []
+
+-- what the choice of an outset looks at, with these count files
+abbrev with : List Entry → State
+with files =
+    state (record { order = 3; page = 2; limit = 4; records = 8; last = 60; live = 2; files = length files })
+    (record { log = replicate 24 0 ++ recordsBytes workedLog; index = []; table = []; catalogue = files; areas = [] })
+
+abbrev kept : ℕ → ℕ → Entry
+kept t k = record { time = t; rows = k }
+
+abbrev file : ℕ → ℕ → ℕ → Held
+file i t k = record { time = t; place = Area i; rows = k }
+
+-- "three requests against one, so the later is used"
+fewer-later : outsetFor (with (kept 10 1 ∷ kept 40 1 ∷ [])) 30 ≡ record { outset = file 1 40 1; side = Later; between = 1 }
+unfolding number bytes recordBytes recordsBytes recordIn records upTo pageTimesFrom keysUpTo filesFrom latest earliest chooseBy
+fewer-later = refl
+
+-- "45 with 20 kept is now a tie of three and starts from 20"
+tie-earlier : outsetFor (with (kept 20 2 ∷ [])) 45 ≡ record { outset = file 0 20 2; side = Earlier; between = 3 }
+unfolding number bytes recordBytes recordsBytes recordIn records upTo pageTimesFrom keysUpTo filesFrom latest earliest chooseBy
+tie-earlier = refl
+
+three-between : (requestsBetween (with []) 10 30 ∷ requestsBetween (with []) 30 10 ∷ requestsBetween (with []) 30 40 ∷ []) ≡ 3 ∷ 3 ∷ 1 ∷ []
+unfolding number bytes recordBytes recordsBytes recordIn records recordsBetween
+three-between = refl
+
+-- ---- the choice between two, by any measure
+
+module _ (f : ℕ → ℕ) (t : ℕ) (early late : Held) where
+  choose-later : between f t late < between f t early → chooseBy f t early late ≡ chosen f t late Later
+  unfolding chooseBy
+  choose-later h = rw (lt-ltb _ _ h)
+
+  choose-earlier : between f t early ≤ between f t late → chooseBy f t early late ≡ chosen f t early Earlier
+  unfolding chooseBy
+  choose-earlier h = rw (le-ltb _ _ h)
+
+-- ---- records between
 
 -- those up to b are those up to a and those after it
 up-to-and-between : (a b : ℕ) → a ≤ b → (rs : List Rec) → recordsUpTo a rs + length (recordsBetween a b rs) ≡ recordsUpTo b rs
@@ -51,8 +103,10 @@ pub counts-between : CountsBetween
 counts-between st t h = apart-between t (h .time) (logOf st)
 
 pub fewest-chosen : FewestChosen
-unfolding chooseBy
-fewest-chosen st t = (λ h. rw (before, after, lt-ltb _ _ h), λ h. rw (before, after, le-ltb _ _ h))
+fewest-chosen st t = (
+  λ h. rw (← after) (choose-later (measure st) t (earlierFor st t) (laterFor st t) (rw (before, after) h)),
+  λ h. rw (← before) (choose-earlier (measure st) t (earlierFor st t) (laterFor st t) (rw (before, after) h)),
+)
   where
     before : between (measure st) t (earlierFor st t) ≡ requestsBetween st t (earlierFor st t .time)
     before = counts-between st t (earlierFor st t)

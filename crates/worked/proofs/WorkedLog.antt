@@ -19,7 +19,7 @@ use Rattle.model.specs.Records.{Rec, insertion, deletion, recordsBytes, records
 use Rattle.model.specs.Memory.{Memory, State, state}
 use Rattle.model.specs.Outset.{between, measure, earlierFor, laterFor}
 use Rattle.model.specs.Queries.{positionOf, Written, tableOf, Viewed, viewOf, Netted, netOf}
-use Rattle.model.specs.Files.{keepOf}
+use Rattle.model.specs.Calls.{keep, run}
 
 -- ---- the state
 
@@ -57,7 +57,7 @@ data Ask : Type 0 where
   position : (t : ℕ) → Ask
   tableFor : (t : ℕ) → Ask
   net : (a b : ℕ) → Ask
-  outset : (kept t : ℕ) → Ask
+  outset : (kept : List ℕ) (t : ℕ) → Ask
 
 -- an outset: what the view hands back, what the table call leaves, and the requests between of the two candidates
 data Result : Type 0 where
@@ -78,7 +78,7 @@ abbrev answer : Ask → Result
 answer (position t) = at (positionOf worked t)
 answer (tableFor t) = written (tableOf worked t (replicate 33 77))
 answer (net a b) = netted (netOf worked a b (replicate 97 77) (replicate 65 77))
-answer (outset kept t) = outsetIn (keepOf worked kept .state) t
+answer (outset kept t) = outsetIn (run worked (map keep kept)) t
 
 abbrev case : Ask → Result → Case
 case a r = record { ask = a; expected = r }
@@ -114,8 +114,8 @@ changes k out work = record { outcome = answers k; output = out ++ (77 ∷ []); 
 abbrev pub seen : Place → ℕ → Side → ℕ → List ℕ → Viewed
 seen place k side n part = record { outcome = answers (record { place = place; rows = k; side = side; between = n }); rows = part }
 
--- each marked P in 01, a position with its requests. The two outsets are those that 02 changes: "45 with 20 kept is now a
--- tie of three and starts from 20, and 30 with only 40 kept starts from 40"
+-- each marked P in 01, a position with its requests; of outsets 02's, which change 01's two: "45 with 20 kept is now a tie
+-- of three and starts from 20, and 30 with only 40 kept starts from 40", and "With 10 and 40 kept"
 cases : List Case
 cases =
     case (position 0) (at (located 0 0)) ∷ case (position 29) (at (located 0 2)) ∷ case (position 30) (at (located 1 4))
@@ -125,8 +125,9 @@ cases =
     ∷ case (tableFor 45) (written (told 1 Later 3 table45))
     ∷ case (net 20 45) (netted (changes 3 change20to45 (table20 ++ table45)))
     ∷ case (net 30 35) (netted (changes 0 (zeros 96) (table30 ++ table30)))
-    ∷ case (outset 20 45) (started (seen (Area 0) 2 Earlier 3 (take 16 table20)) (told 1 Earlier 3 table45) 3 3)
-    ∷ case (outset 40 30) (started (seen (Area 0) 1 Later 1 (take 8 table45)) (told 2 Later 1 table30) 4 1)
+    ∷ case (outset (20 ∷ []) 45) (started (seen (Area 0) 2 Earlier 3 (take 16 table20)) (told 1 Earlier 3 table45) 3 3)
+    ∷ case (outset (40 ∷ []) 30) (started (seen (Area 0) 1 Later 1 (take 8 table45)) (told 2 Later 1 table30) 4 1)
+    ∷ case (outset (10 ∷ 40 ∷ []) 30) (started (seen (Area 1) 1 Later 1 (take 8 table45)) (told 2 Later 1 table30) 3 1)
     ∷ []
 
 worked-cases : map (λ (c : Case). answer (c .ask)) cases ≡ map (λ (c : Case). c .expected) cases
