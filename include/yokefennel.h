@@ -21,7 +21,9 @@
  * A count file is the table of one time, kept so that tables near it are found sooner. The store holds as many
  * as there are entries and whole areas for, at most 16: the file of entry i has area i, times ascend, and the
  * entries behind the last file are zero. The files kept change no table and no net change, only where a table
- * is worked out from.
+ * is worked out from: of the last file at or before its time (without one, the empty table of time 0) and the
+ * first file at or after it (without one, the current table) the one with fewer requests between, the earlier
+ * one on a tie.
  *
  * A refused call answers the number of the first question answered no, and leaves all memory and the numbers
  * as they were. But a refused yk_fresh or yk_open answers numbers that are all zero; and at 17 yk_open has
@@ -126,21 +128,21 @@ typedef struct yk_position_answer {
 } yk_position_answer;
 
 typedef struct yk_table_answer {
-    uint8_t question;  /* an enum yk_question; all else is 0 where refused */
-    uint32_t rows;     /* rows of the table */
-    uint8_t later;     /* 1 if it was worked out from a table at or after its time, else 0 */
-    uint32_t distance; /* how many pages that table is away */
+    uint8_t question;          /* an enum yk_question; all else is 0 where refused */
+    uint32_t rows;             /* rows of the table */
+    uint8_t later;             /* 1 if it was worked out from a table at or after its time, else 0 */
+    uint32_t requests_between; /* how many requests lie between that table and the time, two for an update */
 } yk_table_answer;
 
 typedef struct yk_view_answer {
-    uint8_t question;  /* an enum yk_question; all else is 0 where refused */
-    uint8_t place;     /* an enum yk_place */
-    uint32_t area;     /* at YK_AREA the number of the area, from 0; else 0 */
-    uint32_t rows;     /* rows there */
-    uint8_t later;     /* 1 if they are those of a time at or after the one asked for, else 0 */
-    uint32_t distance; /* how many pages that time is away */
-    size_t start;      /* the part they fill: its first byte in areas (YK_AREA) or in table */
-    size_t length;     /* and its bytes, 8 for each row */
+    uint8_t question;          /* an enum yk_question; all else is 0 where refused */
+    uint8_t place;             /* an enum yk_place */
+    uint32_t area;             /* at YK_AREA the number of the area, from 0; else 0 */
+    uint32_t rows;             /* rows there */
+    uint8_t later;             /* 1 if they are those of a time at or after the one asked for, else 0 */
+    uint32_t requests_between; /* how many requests lie between that time and the one asked for, two for an update */
+    size_t start;              /* the part they fill: its first byte in areas (YK_AREA) or in table */
+    size_t length;             /* and its bytes, 8 for each row */
 } yk_view_answer;
 
 typedef struct yk_net_change_answer {
@@ -253,9 +255,9 @@ static inline yk_part yk_view_part(yk_view_answer view, const uint8_t *areas, co
 
 /* The version of this header, and that of the archive as the one number that the header has as YK_VERSION_NUMBER. */
 #define YK_VERSION_MAJOR 0
-#define YK_VERSION_MINOR 1
+#define YK_VERSION_MINOR 2
 #define YK_VERSION_PATCH 0
-#define YK_VERSION "0.1.0"
+#define YK_VERSION "0.2.0"
 #define YK_VERSION_NUMBER (65536u * YK_VERSION_MAJOR + 256u * YK_VERSION_MINOR + YK_VERSION_PATCH)
 
 uint32_t yk_version(void);

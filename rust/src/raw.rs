@@ -39,8 +39,8 @@ pub struct TableAnswer {
     pub rows: u32,
     /// 1 if it was worked out from a table at or after its time
     pub later: u8,
-    /// how many pages that table is away
-    pub distance: u32,
+    /// how many requests lie between that table and the time, two for an update
+    pub requests_between: u32,
 }
 
 /// What [`yk_view`] answers.
@@ -57,8 +57,8 @@ pub struct ViewAnswer {
     pub rows: u32,
     /// 1 if they are those of a time at or after the one asked for
     pub later: u8,
-    /// how many pages that time is away
-    pub distance: u32,
+    /// how many requests lie between that time and the one asked for, two for an update
+    pub requests_between: u32,
     /// their first byte in the areas (place 1) or in the table
     pub start: usize,
     /// and their bytes, 8 for each row

@@ -60,8 +60,8 @@ pub struct Table<'o> {
     rows: u32,
     /// where it was worked out from
     pub side: Side,
-    /// how many pages that is away
-    pub distance: u32,
+    /// how many requests lie between that table and the time, two for an update
+    pub requests_between: u32,
 }
 
 /// Where the rows of a view lie.
@@ -84,8 +84,8 @@ pub struct View<'s> {
     pub place: Place,
     /// whether they are those of an earlier or a later time
     pub side: Side,
-    /// how many pages that time is away
-    pub distance: u32,
+    /// how many requests lie between that time and the one asked for, two for an update
+    pub requests_between: u32,
 }
 
 /// A net change, in the output that was lent for it.
@@ -341,7 +341,8 @@ impl<'a> Store<'a> {
             )
         };
         accepted(answer.question)?;
-        Ok(Table { bytes: out, rows: answer.rows, side: side(answer.later), distance: answer.distance })
+        let (side, requests_between) = (side(answer.later), answer.requests_between);
+        Ok(Table { bytes: out, rows: answer.rows, side, requests_between })
     }
 
     /// The rows that the table of a time is worked out from, where they lie.
@@ -364,7 +365,8 @@ impl<'a> Store<'a> {
             _ => (&**table, Place::Empty),
         };
         let bytes = front(region.get(answer.start..).unwrap_or(&[]), answer.length);
-        Ok(View { bytes, rows: answer.rows, place, side: side(answer.later), distance: answer.distance })
+        let (side, requests_between) = (side(answer.later), answer.requests_between);
+        Ok(View { bytes, rows: answer.rows, place, side, requests_between })
     }
 
     /// What leads from the table of time a to that of time b, a before or after b, into the first 24 × limit

@@ -53,7 +53,7 @@ fn build(memory: &mut Memory) -> Store<'_> {
 fn table(store: &Store, time: u64) -> (Vec<Row>, Side, u32) {
     let mut out = [0xA5; 32];
     let table = store.table(time, &mut out).unwrap();
-    (table.rows().collect(), table.side, table.distance)
+    (table.rows().collect(), table.side, table.requests_between)
 }
 
 #[test]
@@ -74,8 +74,10 @@ fn log_numbers_and_positions() {
 fn tables_and_net_changes() {
     let mut memory = Memory::of(9, 2);
     let store = build(&mut memory);
-    assert_eq!(table(&store, 20), (vec![row(3, 12), row(7, 50)], Side::Earlier, 0));
-    assert_eq!(table(&store, 45), (vec![row(7, 44)], Side::Later, 1));
+    // 2 requests from time 0 and 6 to the last; 4 and 4; 5 and 3
+    assert_eq!(table(&store, 20), (vec![row(3, 12), row(7, 50)], Side::Earlier, 2));
+    assert_eq!(table(&store, 30), (vec![row(3, 12), row(7, 44)], Side::Earlier, 4));
+    assert_eq!(table(&store, 45), (vec![row(7, 44)], Side::Later, 3));
     let mut out = [0; 32];
     let day = store.table(20, &mut out).unwrap();
     assert_eq!([2, 3, 4, 7, 8].map(|article| day.count(article)), [None, Some(12), None, Some(50), None]);
@@ -91,21 +93,34 @@ fn tables_and_net_changes() {
 
 #[test]
 fn count_files_and_views() {
+    fn outset(store: &Store, time: u64) -> (Place, Side, u32) {
+        let view = store.view(time).unwrap();
+        (view.place, view.side, view.requests_between)
+    }
     let mut memory = Memory::of(9, 2);
     let mut store = build(&mut memory);
     store.keep(20).unwrap();
     assert_eq!(store.files(), [Entry { time: 20, rows: 2 }]);
-    let view = store.view(30).unwrap();
-    assert_eq!((view.place, view.side, view.distance), (Place::File(0), Side::Earlier, 1));
-    assert_eq!(view.rows().collect::<Vec<_>>(), [row(3, 12), row(7, 50)]);
-    assert_eq!(store.view(45).unwrap().place, Place::Current);
+    // requests from 20 and to the last time: 2 and 4, a tie of 3, 4 and 2
+    assert_eq!(outset(&store, 30), (Place::File(0), Side::Earlier, 2));
+    assert_eq!(store.view(30).unwrap().rows().collect::<Vec<_>>(), [row(3, 12), row(7, 50)]);
+    assert_eq!(outset(&store, 45), (Place::File(0), Side::Earlier, 3));
+    assert_eq!(table(&store, 45), (vec![row(7, 44)], Side::Earlier, 3));
+    assert_eq!(outset(&store, 50), (Place::Current, Side::Later, 2));
+    assert_eq!(store.view(50).unwrap().rows().collect::<Vec<_>>(), [row(7, 44), row(9, 6)]);
     assert_eq!(store.view(0).unwrap().rows().len(), 0);
     assert_eq!(store.keep(20), Err(Refusal::NotToKeep));
     store.keep(40).unwrap();
     assert_eq!(store.keep(30), Err(Refusal::CatalogueFull));
     store.drop_file(20).unwrap();
     assert_eq!(store.drop_file(20), Err(Refusal::NotKept));
-    assert_eq!(table(&store, 30), (vec![row(3, 12), row(7, 44)], Side::Earlier, 1));
+    // with only 40 kept 4 and 1, with 10 as well 3 and 1
+    assert_eq!(outset(&store, 30), (Place::File(0), Side::Later, 1));
+    assert_eq!(table(&store, 30), (vec![row(3, 12), row(7, 44)], Side::Later, 1));
+    store.keep(10).unwrap();
+    assert_eq!(outset(&store, 30), (Place::File(1), Side::Later, 1));
+    assert_eq!(store.view(30).unwrap().rows().collect::<Vec<_>>(), [row(7, 44)]);
+    assert_eq!(table(&store, 30), (vec![row(3, 12), row(7, 44)], Side::Later, 1));
     assert!(store.audit());
 }
 

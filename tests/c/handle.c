@@ -78,6 +78,7 @@ static void count_files(yk_store *store) {
     yk_view_answer view = yk_store_view(store, 30);
     yk_part part = yk_store_view_part(store, view);
     require(view.place == YK_AREA && part.bytes == areas && part.length == 16, "view");
+    require(view.later == 0 && view.requests_between == 2, "an update between");
     require(row_is(yk_row_at(part.bytes, 1), 7, 50), "a view's row");
     require(yk_store_keep(store, 20) == YK_NOT_TO_KEEP && store->numbers.files == 1, "numbers of a refusal");
     require(yk_store_drop(store, 20) == YK_ACCEPTED && store->numbers.files == 0, "drop");

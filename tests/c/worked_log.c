@@ -161,12 +161,12 @@ static void compare_positions(void) {
     }
 }
 
-static bool table_is(uint64_t time, const uint8_t *bytes, uint32_t rows, int later, uint32_t distance) {
+static bool table_is(uint64_t time, const uint8_t *bytes, uint32_t rows, int later, uint32_t between) {
     uint8_t out[TABLE + 1];
     memset(out, 0xA5, sizeof out);
     yk_table_answer answer = table(time, out);
     return answer.question == YK_ACCEPTED && answer.rows == rows && answer.later == later
-        && answer.distance == distance && memcmp(out, bytes, TABLE) == 0 && out[TABLE] == 0xA5;
+        && answer.requests_between == between && memcmp(out, bytes, TABLE) == 0 && out[TABLE] == 0xA5;
 }
 
 static void compare_net_changes(void) {
@@ -188,31 +188,44 @@ static void compare_net_changes(void) {
 /* ---- count files and views */
 
 /* All fields of a view, and the part that it makes. */
-static bool view_is(uint64_t time, int place, uint32_t area, uint32_t rows, int later, uint32_t distance,
+static bool view_is(uint64_t time, int place, uint32_t area, uint32_t rows, int later, uint32_t between,
     const uint8_t *part) {
     yk_view_answer view = yk_view(numbers, STORE, time);
     const uint8_t *region = place == 1 ? lent.areas : lent.table;
     yk_part found = yk_view_part(view, lent.areas, lent.table);
     return view.question == YK_ACCEPTED && view.place == place && view.area == area && view.rows == rows
-        && view.later == later && view.distance == distance && view.start == (size_t)(part - region)
+        && view.later == later && view.requests_between == between && view.start == (size_t)(part - region)
         && view.length == 8 * rows && found.bytes == part && found.length == 8 * rows;
 }
 
-static void keep_one(void) {
+/* Requests at or before 10, 20, 30, 40, 45 and 60: 1, 2, 4, 5, 5 and 8. */
+static void keep_none(void) {
+    require(table_is(20, TABLE_20, 2, 0, 2), "the table of 20: 2 requests from time 0, 6 to the last");
+    require(table_is(30, TABLE_30, 2, 0, 4), "the table of 30: 4 and 4");
+    require(table_is(45, TABLE_45, 1, 1, 3), "the table of 45: 5 and 3");
+    require(table_is(60, TABLE_60, 2, 1, 0), "the table of 60: 8 and none");
     require(view_is(0, YK_EMPTY, 0, 0, 0, 0, lent.table), "view of time 0");
+    require(view_is(30, YK_EMPTY, 0, 0, 0, 4, lent.table), "view of 30");
+    require(view_is(45, YK_CURRENT, 0, 2, 1, 3, lent.table), "view of 45");
+}
+
+static void keep_one(void) {
     require(keep(20) == YK_ACCEPTED && numbers_are(3, 2, 4, 8, 60, 2, 1), "keep 20");
     require(entry_is(0, 20, 2) && entry_is(1, 0, 0), "the entry of 20");
     require(memcmp(lent.areas, TABLE_20, TABLE) == 0, "the area of 20");
-    require(table_is(45, TABLE_45, 1, 1, 1), "with 20 kept, 45 starts from the current table");
-    require(view_is(45, YK_CURRENT, 0, 2, 1, 1, lent.table), "view of 45 with 20 kept");
+    require(table_is(45, TABLE_45, 1, 0, 3), "with 20 kept, 45 is a tie of three and starts from 20");
+    require(view_is(45, YK_AREA, 0, 2, 0, 3, lent.areas), "view of 45 with 20 kept");
     require(audit(), "audit with 20 kept");
     require(drop(20) == YK_ACCEPTED && numbers_are(3, 2, 4, 8, 60, 2, 0), "drop 20");
     require(entry_is(0, 0, 0) && zero(lent.areas, TABLE), "the entry and the area of 20 are zero");
 
     require(keep(40) == YK_ACCEPTED, "keep 40");
-    require(table_is(30, TABLE_30, 2, 0, 1), "with only 40 kept, 30 starts from time 0");
-    require(view_is(30, YK_EMPTY, 0, 0, 0, 1, lent.table), "view of 30 with only 40 kept");
-    require(drop(40) == YK_ACCEPTED, "drop 40");
+    require(table_is(30, TABLE_30, 2, 1, 1), "with only 40 kept, 30 starts from 40");
+    require(view_is(30, YK_AREA, 0, 1, 1, 1, lent.areas), "view of 30 with only 40 kept");
+    require(keep(10) == YK_ACCEPTED, "keep 10");
+    require(table_is(30, TABLE_30, 2, 1, 1), "with 10 and 40 kept, 30 starts from 40: three requests against one");
+    require(view_is(30, YK_AREA, 1, 1, 1, 1, lent.areas + TABLE), "view of 30 with 10 and 40 kept");
+    require(drop(10) == YK_ACCEPTED && drop(40) == YK_ACCEPTED, "drop 10 and 40");
 }
 
 static void keep_several(void) {
@@ -224,7 +237,7 @@ static void keep_several(void) {
     require(zero(lent.areas, 2 * TABLE) && memcmp(lent.areas + 2 * TABLE, TABLE_10, TABLE) == 0
             && memcmp(lent.areas + 3 * TABLE, TABLE_20, TABLE) == 0,
         "area i is the table of entry i");
-    require(view_is(30, YK_AREA, 3, 2, 0, 1, lent.areas + 3 * TABLE), "view of 30 with 20 kept");
+    require(view_is(30, YK_AREA, 3, 2, 0, 2, lent.areas + 3 * TABLE), "view of 30 with 20 kept");
     require(audit(), "audit with four files");
 
     require(drop(6) == YK_ACCEPTED && numbers_are(3, 2, 4, 8, 60, 2, 3), "drop 6");
@@ -233,7 +246,7 @@ static void keep_several(void) {
     require(memcmp(lent.areas + TABLE, TABLE_10, TABLE) == 0
             && memcmp(lent.areas + 2 * TABLE, TABLE_20, TABLE) == 0 && zero(lent.areas + 3 * TABLE, TABLE),
         "the later areas move down, and the last one is zero");
-    require(view_is(30, YK_AREA, 2, 2, 0, 1, lent.areas + 2 * TABLE), "view of 30 after drop 6");
+    require(view_is(30, YK_AREA, 2, 2, 0, 2, lent.areas + 2 * TABLE), "view of 30 after drop 6");
     require(audit(), "audit with three files");
     require(keep(45) == YK_ACCEPTED && entry_is(3, 45, 1), "keep 45");
 }
@@ -313,9 +326,10 @@ static void refused_answers(void) {
     yk_table_answer rows = table(61, out);
     yk_view_answer view = yk_view(numbers, STORE, 61);
     yk_part part = yk_view_part(view, lent.areas, lent.table);
-    require(position.page == 0 && position.requests == 0 && rows.rows == 0 && rows.later == 0 && rows.distance == 0,
+    require(position.page == 0 && position.requests == 0 && rows.rows == 0 && rows.later == 0
+            && rows.requests_between == 0,
         "refused: zeros");
-    require(view.place == 0 && view.area == 0 && view.rows == 0 && view.later == 0 && view.distance == 0
+    require(view.place == 0 && view.area == 0 && view.rows == 0 && view.later == 0 && view.requests_between == 0
             && view.start == 0 && view.length == 0 && part.bytes == lent.table && part.length == 0,
         "a refused view is empty");
 }
@@ -374,10 +388,8 @@ int main(int many, char **arguments) {
     compare_log(arguments[1]);
     compare_index();
     compare_positions();
-    require(table_is(20, TABLE_20, 2, 0, 0), "the table of 20");
-    require(table_is(30, TABLE_30, 2, 0, 1), "the table of 30");
-    require(table_is(45, TABLE_45, 1, 1, 1), "the table of 45");
     compare_net_changes();
+    keep_none();
     keep_one();
     keep_several();
     damage();

@@ -1,4 +1,4 @@
-//! Held times and the choice of an outset (01, "Count files"; report section 5.3).
+//! Held times and the choice of an outset (01, "Count files"; 02, wish 6).
 
 use crate::position::Position;
 
@@ -34,12 +34,13 @@ pub enum Side {
     Later,
 }
 
-/// The outset chosen for a time, and its page distance from it.
+/// The outset chosen for a time, and how many requests lie between the two.
 #[derive(Clone, Copy, Debug, PartialEq, Eq)]
 pub struct Outset {
     pub held: Held,
     pub side: Side,
-    pub distance: u32,
+    /// records, so two for an update
+    pub requests_between: u32,
 }
 
 /// All that is held: the empty table at 0, each count file, the current table at the last time.
@@ -50,9 +51,11 @@ pub fn held(files: &[Entry], last: u64) -> Vec<Held> {
     all
 }
 
-/// "The larger less the smaller of two page positions, that of t and that of the outset's time."
-pub fn page_distance(outset: Position, wanted: Position) -> u32 {
-    outset.page.abs_diff(wanted.page)
+/// 02's "requests between it and the wanted time": "the larger less the smaller of two", as in 01, here of
+/// the request counts of t and of the outset's time. The records at t itself are in the count of t, so
+/// they are between t and an earlier outset, and not between t and a later one.
+pub fn requests_between(outset: Position, wanted: Position) -> u32 {
+    outset.requests.abs_diff(wanted.requests)
 }
 
 /// The nearest held time ≤ t: 0 or a count file, never the current table.
@@ -74,17 +77,17 @@ pub fn later_candidate(files: &[Entry], last: u64, t: u64) -> Held {
         .unwrap()
 }
 
-/// "The later one is used only if its page distance is strictly smaller." Asked for t ≤ last only;
-/// `position` is that of the log.
+/// "The outset is now, of 01's two, the one with fewest requests between it and the wanted time, and the
+/// earlier one on a tie." Asked for t ≤ last only; `position` is that of the log.
 pub fn choose(position: impl Fn(u64) -> Position, files: &[Entry], last: u64, t: u64) -> Outset {
     let earlier = earlier_candidate(files, last, t);
     let later = later_candidate(files, last, t);
     let wanted = position(t);
-    let before = page_distance(position(earlier.time), wanted);
-    let after = page_distance(position(later.time), wanted);
-    if after < before {
-        Outset { held: later, side: Side::Later, distance: after }
+    let after_earlier = requests_between(position(earlier.time), wanted);
+    let before_later = requests_between(position(later.time), wanted);
+    if before_later < after_earlier {
+        Outset { held: later, side: Side::Later, requests_between: before_later }
     } else {
-        Outset { held: earlier, side: Side::Earlier, distance: before }
+        Outset { held: earlier, side: Side::Earlier, requests_between: after_earlier }
     }
 }

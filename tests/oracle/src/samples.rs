@@ -25,6 +25,16 @@ pub const BY_HAND: [Request; 6] = [
     Update(60, 9, 5, 6),
 ];
 
+/// Times 10 20 | 20 30 | 40, a page of two records between two bars: three requests up to 20 and two after it. By one
+/// half of the update there would be no more up to 20 than after it.
+pub const SPLIT_AT_20: [Request; 4] =
+    [Insert(10, 7, 50), Update(20, 7, 50, 44), Insert(30, 3, 12), Insert(40, 9, 5)];
+
+/// Times 10 20 | 30 40 | 40 50: three requests up to 30 and three after it. By one half of the update there would be
+/// fewer after it.
+pub const SPLIT_AT_40: [Request; 5] =
+    [Insert(10, 7, 50), Insert(20, 3, 12), Insert(30, 9, 5), Update(40, 7, 50, 44), Insert(50, 8, 1)];
+
 /// The records of these requests, an update being two.
 pub fn records_of(requests: &[Request]) -> Vec<Record> {
     let mut records = Vec::new();
@@ -80,6 +90,13 @@ pub fn samples() -> Vec<(&'static str, Vec<u8>)> {
         ("article-0-count-0", article_0_count_0()),
         ("cut-input", cut_input()),
         ("latest-times", latest_times()),
+        // nearness in requests (02, wish 6): the candidates are time 0 and the last time
+        ("one-page", log_of(3, 64, 5, &insertions(5))),
+        ("tie-of-requests", log_of(3, 4, 6, &insertions(6))),
+        ("split-update-later", log_of(3, 2, 4, &records_of(&SPLIT_AT_20))),
+        ("split-update-tie", log_of(3, 2, 4, &records_of(&SPLIT_AT_40))),
+        ("crowded-start", crowded([1, 2, 3, 4, 1_000])),
+        ("crowded-end", crowded([996, 997, 998, 999, 1_000])),
     ]
 }
 
@@ -145,4 +162,11 @@ fn latest_times() -> Vec<u8> {
     let requests =
         [Insert(1, 7, 50), Insert(1 << 63, 3, 12), Insert(end - 1, 8, u32::MAX), Update(end, 7, 50, 44)];
     log_of(2, 2, 3, &records_of(&requests))
+}
+
+/// Five requests, the third of them nearer in requests to the last time than to time 0, whichever is nearer in time.
+fn crowded(times: [u64; 5]) -> Vec<u8> {
+    let [a, b, c, d, e] = times;
+    let requests = [Insert(a, 7, 50), Insert(b, 3, 12), Delete(c, 7, 50), Insert(d, 8, 1), Delete(e, 3, 12)];
+    log_of(3, 2, 2, &records_of(&requests))
 }

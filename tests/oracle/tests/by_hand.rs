@@ -6,7 +6,7 @@ use common::{by_hand, fresh, net_change, outset, position, refused, table, AMPLE
 use oracle::layout::{DELETION, INSERTION};
 use oracle::listing::listing;
 use oracle::log::log_length;
-use oracle::outset::Side;
+use oracle::outset::{Place, Side};
 use oracle::samples::log_by_hand;
 use oracle::store::{Lengths, Memory, Store};
 use oracle::tree::nodes;
@@ -74,15 +74,31 @@ fn net_changes() {
     assert_eq!(net_change(&store, 30, 35), []);
 }
 
+/// 02's figures (wish 6). The requests up to 10, 20, 30, 40, 45 and 60 are 1, 2, 4, 5, 5 and 8.
 #[test]
 fn outsets() {
     let mut store = by_hand();
+    let view = |store: &Store, t| {
+        let view = store.view(t).unwrap();
+        (view.place, view.side, view.requests_between, view.rows, view.start, view.length)
+    };
+    // with 20 kept: 5 - 2 against 8 - 5, a tie of three
     store.keep(20).unwrap();
-    assert_eq!(outset(&store, 45), (Side::Later, 1));
+    assert_eq!(outset(&store, 45), (Side::Earlier, 3));
+    assert_eq!(view(&store, 45), (Place::File(0), Side::Earlier, 3, 2, 0, 16));
+    assert_eq!(table(&store, 45).0, [(7, 44)]);
     store.drop_file(20).unwrap();
+    // with only 40 kept: 4 - 0 against 5 - 4
     store.keep(40).unwrap();
-    assert_eq!(outset(&store, 30), (Side::Earlier, 1));
-    assert_eq!(store.view(30).unwrap().length, 0);
+    assert_eq!(outset(&store, 30), (Side::Later, 1));
+    assert_eq!(view(&store, 30), (Place::File(0), Side::Later, 1, 1, 0, 8));
+    assert_eq!(table(&store, 30).0, [(3, 12), (7, 44)]);
+    // with 10 and 40 kept: 4 - 1 against 5 - 4, and one page either way
+    store.keep(10).unwrap();
+    assert_eq!(outset(&store, 30), (Side::Later, 1));
+    assert_eq!(view(&store, 30), (Place::File(1), Side::Later, 1, 1, 32, 8));
+    assert_eq!(table(&store, 30).0, [(3, 12), (7, 44)]);
+    assert_eq!([10, 30, 40].map(|t| position(&store, t)), [(0, 1), (1, 4), (2, 5)]);
 }
 
 #[test]

@@ -3,13 +3,12 @@
 
 mod common;
 
-use common::STRANGE;
+use common::{candidates, records_between, STRANGE};
 use oracle::generate::legal_log;
 use oracle::layout::Row;
 use oracle::log::{log_length, page_times};
 use oracle::net_change::{leads, net_change, output_length};
-use oracle::outset::{earlier_candidate, held, later_candidate, page_distance, Place, Side};
-use oracle::position::position;
+use oracle::outset::{held, Held, Place, Side};
 use oracle::random::Random;
 use oracle::store::{Lengths, Memory, Numbers, Refusal, Store};
 use oracle::table::{table_bytes, table_length, timeslice};
@@ -96,9 +95,10 @@ fn check(random: &mut Random, store: &Store) {
     assert_eq!(list.is_empty(), rows_a == rows_b);
 }
 
-/// The table of t, with its outset checked: every other held one is as far or farther.
+/// The table of t, with its outset checked: of the two candidates the one with fewest requests between,
+/// the earlier one on a tie, and no held one has fewer.
 fn table_at(store: &Store, t: u64) -> Vec<Row> {
-    let Numbers { page_size, row_limit, last, .. } = store.numbers;
+    let Numbers { row_limit, last, .. } = store.numbers;
     let mut output = vec![STRANGE; table_length(row_limit)];
     let answer = store.table(t, &mut output).unwrap();
     let rows = timeslice(&store.records(), t);
@@ -106,16 +106,14 @@ fn table_at(store: &Store, t: u64) -> Vec<Row> {
     assert_eq!(output, table_bytes(row_limit, &rows));
 
     let records = store.records();
-    let distance =
-        |time| page_distance(position(page_size, &records, time), position(page_size, &records, t));
-    let used = match answer.side {
-        Side::Earlier => earlier_candidate(store.kept(), last, t),
-        Side::Later => later_candidate(store.kept(), last, t),
-    };
-    assert_eq!(distance(used.time), answer.distance);
-    assert!(held(store.kept(), last).iter().all(|held| distance(held.time) >= answer.distance));
+    let between = |held: &Held| records_between(&records, held.time, t);
+    let [earlier, later] = candidates(store, t);
+    let (side, used) =
+        if between(&later) < between(&earlier) { (Side::Later, later) } else { (Side::Earlier, earlier) };
+    assert_eq!((answer.side, answer.requests_between), (side, between(&used)));
+    assert!(held(store.kept(), last).iter().all(|held| between(held) >= answer.requests_between));
     let view = store.view(t).unwrap();
-    assert_eq!((view.side, view.distance), (answer.side, answer.distance));
+    assert_eq!((view.place, view.side, view.requests_between), (used.place, side, between(&used)));
     let outset_rows = timeslice(&store.records(), used.time);
     let expected = if used.place == Place::Empty { vec![] } else { outset_rows };
     assert_eq!(store.view_bytes(&view), expected.iter().flat_map(Row::bytes).collect::<Vec<u8>>());

@@ -6,7 +6,7 @@ mod common;
 use common::legal::form_right;
 use oracle::generate::{case, damages, legal_log, Damage, MOST_LISTED};
 use oracle::layout::Header;
-use oracle::listing::{listing, HEADING};
+use oracle::listing::{listing, HEADING, LENT_LOG};
 use oracle::log::{first_wrong, last_time, records};
 use oracle::random::Random;
 use oracle::store::{Memory, Refusal, Store};
@@ -134,4 +134,43 @@ fn cases_cover_all_answers() {
     let expected =
         ["refused 1", "refused 17", "refused 2", "refused 3", "refused 4", "refused 5", HEADING.trim_end()];
     assert_eq!(seen, expected.map(String::from).into());
+}
+
+/// Time, page, and whether the outset is the later one.
+fn line(text: &str) -> (u64, u32, bool) {
+    let fields: Vec<&str> = text.split(' ').collect();
+    (fields[0].parse().unwrap(), fields[1].parse().unwrap(), fields[2] == "L")
+}
+
+/// The logs that `compare_listing` takes first: many tell nearness in requests (02, wish 6) from nearness in pages.
+///
+/// Without a file the candidates are time 0 and the last time. There pages never chose the later one against the
+/// requests: the last of c requests is on page p = (c - 1) / N, rounded down, the last of all n on P = (n - 1) / N.
+/// From n >= 2c follows n - 1 >= 2pN + 1, so P >= 2p.
+#[test]
+fn listings_are_other_than_by_pages() {
+    let (mut logs, mut lines, mut ties, mut updates) = (0, 0, 0, 0);
+    for number in 0..1000 {
+        let mut bytes = case(&mut Random::for_case(2055, number)).bytes;
+        let output = listing(&bytes);
+        let listed: Vec<_> = output.lines().skip(1).map(line).collect();
+        let Some(&(_, last_page, _)) = listed.last() else { continue };
+        bytes.resize(LENT_LOG.max(bytes.len()), 0);
+        let n = Header::read(&bytes).records;
+        let records = records(&bytes, n);
+        let before = lines;
+        for (i, &(time, page, later)) in listed.iter().enumerate() {
+            let until = records.iter().filter(|record| record.time <= time).count() as u32;
+            assert_eq!(later, n - until < until, "case {number}, time {time}");
+            let later_by_pages = last_page - page < page;
+            assert!(later || !later_by_pages, "case {number}, time {time}");
+            // the last line of a one-page log is no art
+            lines += (later && !later_by_pages && until < n) as u32;
+            ties += (until == n - until) as u32;
+            // an update has one line, and would be one request
+            updates += (later != (listed.len() - (i + 1) < i + 1)) as u32;
+        }
+        logs += (lines > before) as u32;
+    }
+    assert!(logs > 300 && lines > 2000 && ties > 100 && updates > 200, "{logs}, {lines}, {ties}, {updates}");
 }

@@ -22,12 +22,56 @@ fn by_hand() {
     assert_eq!(sample("short-empty-log"), lines(""));
     assert_eq!(sample("update-over-two-pages"), lines("10 0 E 1\n20 1 L 1\n"));
     assert_eq!(sample("article-0-count-0"), lines("10 0 E 1\n20 0 E 2\n30 1 L 1\n40 1 L 0\n"));
-    assert_eq!(sample("cut-input"), lines("10 0 E 1\n20 0 E 2\n"));
+    assert_eq!(sample("cut-input"), lines("10 0 E 1\n20 0 L 2\n"));
     let latest =
-        "1 0 E 1\n9223372036854775808 0 E 2\n18446744073709551614 1 E 3\n18446744073709551615 2 L 3\n";
+        "1 0 E 1\n9223372036854775808 0 E 2\n18446744073709551614 1 L 3\n18446744073709551615 2 L 3\n";
     assert_eq!(sample("latest-times"), lines(latest));
-    let order_2 = "5 0 E 1\n10 0 E 2\n15 1 E 3\n20 1 E 4\n25 2 E 5\n30 2 E 6\n35 3 L 7\n40 3 L 8\n45 4 L 9\n";
+    let order_2 = "5 0 E 1\n10 0 E 2\n15 1 E 3\n20 1 E 4\n25 2 L 5\n30 2 L 6\n35 3 L 7\n40 3 L 8\n45 4 L 9\n";
     assert_eq!(sample("order-2"), lines(order_2));
+}
+
+/// Nearness in requests (02, wish 6), by hand. Beside a line stand the requests up to its time and those after it;
+/// pages would have chosen E wherever there is a star.
+#[test]
+fn nearness_by_hand() {
+    let expected = |lines: &[&str]| HEADING.to_string() + &lines.concat();
+    let one_page = expected(&[
+        "5 0 E 1\n",  // 1 and 4
+        "10 0 E 2\n", // 2 and 3
+        "15 0 L 3\n", // 3 and 2 *
+        "20 0 L 4\n", // 4 and 1 *
+        "25 0 L 5\n", // 5 and 0 *
+    ]);
+    assert_eq!(sample("one-page"), one_page);
+    let tie_of_requests = expected(&[
+        "5 0 E 1\n",  // 1 and 5
+        "10 0 E 2\n", // 2 and 4
+        "15 0 E 3\n", // 3 and 3
+        "20 0 L 4\n", // 4 and 2 *
+        "25 1 L 5\n", // 5 and 1
+        "30 1 L 6\n", // 6 and 0
+    ]);
+    assert_eq!(sample("tie-of-requests"), tie_of_requests);
+    let split_update_later = expected(&[
+        "10 0 E 1\n", // 1 and 4
+        "20 1 L 1\n", // 3 and 2 *
+        "30 1 L 2\n", // 4 and 1 *
+        "40 2 L 3\n", // 5 and 0
+    ]);
+    assert_eq!(sample("split-update-later"), split_update_later);
+    let split_update_tie = expected(&[
+        "10 0 E 1\n", // 1 and 5
+        "20 0 E 2\n", // 2 and 4
+        "30 1 E 3\n", // 3 and 3
+        "40 2 L 3\n", // 5 and 1
+        "50 2 L 4\n", // 6 and 0
+    ]);
+    assert_eq!(sample("split-update-tie"), split_update_tie);
+    // 1 and 4, 2 and 3, 3 and 2 *, 4 and 1 *, 5 and 0
+    let start = expected(&["1 0 E 1\n", "2 0 E 2\n", "3 1 L 1\n", "4 1 L 2\n", "1000 2 L 1\n"]);
+    assert_eq!(sample("crowded-start"), start);
+    let end = expected(&["996 0 E 1\n", "997 0 E 2\n", "998 1 L 1\n", "999 1 L 2\n", "1000 2 L 1\n"]);
+    assert_eq!(sample("crowded-end"), end);
 }
 
 #[test]
@@ -42,12 +86,12 @@ fn refusals_by_hand() {
     assert_eq!(sample("empty-log-last-time-wrong"), "refused 17\n");
 }
 
-/// Twenty pages of two insertions at 5, 10, 15 …: positions 0 to 19, the later outset from page 10
-/// on.
+/// Twenty pages of two insertions at 5, 10, 15 …: positions 0 to 19, the later outset from the 21st request
+/// on, as the 20th is a tie.
 #[test]
 fn right_edge_by_rule() {
-    let expected: String = (0..40)
-        .map(|k| format!("{} {} {} {}\n", 5 * (k + 1), k / 2, if k / 2 > 9 { "L" } else { "E" }, k + 1))
+    let expected: String = (1..=40)
+        .map(|c| format!("{} {} {} {}\n", 5 * c, (c - 1) / 2, if c > 20 { "L" } else { "E" }, c))
         .collect();
     assert_eq!(sample("edge-skips-two-levels"), HEADING.to_string() + &expected);
 }
@@ -57,6 +101,9 @@ fn most_records() {
     let output = sample("most-records");
     assert_eq!(output.lines().count(), 1 + 900 + 29 + 900);
     assert_eq!(output.lines().last(), Some("4697 1364 L 871"));
+    // 929 records and 217 updates up to 2648, 1363 against 1366; one update more, 1365 against 1364
+    let turn: Vec<&str> = output.lines().skip_while(|line| !line.starts_with("2648 ")).take(2).collect();
+    assert_eq!(turn, ["2648 681 E 871", "2651 682 L 871"]);
     // one record more does not fit
     let mut input = samples().into_iter().find(|(name, _)| *name == "most-records").unwrap().1;
     input[..24].copy_from_slice(&Header::new(2, 2, 900, 2_730, 4_697).bytes());

@@ -3,7 +3,7 @@
 
 mod common;
 
-use common::legal::form_right;
+use common::{candidates, legal::form_right, records_between, side_by_pages};
 use oracle::calls::{call, damage, start, Call, Plan};
 use oracle::layout::Header;
 use oracle::limits::{ORDERS, PAGE_SIZES};
@@ -31,10 +31,32 @@ struct Met {
     /// count files before and after the one dropped
     drops: BTreeSet<(usize, usize)>,
     audits: [u32; 2],
-    /// place without its number, side, and whether the distance is 0
+    /// place without its number, side, and whether no request is between
     views: BTreeMap<(&'static str, bool, bool), u32>,
+    /// tables and views, on memory that the audit passes, with the other side by pages, and whether the later
+    /// outset was used
+    other_by_pages: BTreeMap<(&'static str, bool), u32>,
+    /// and those with as many requests between on either side, not none
+    ties: BTreeMap<&'static str, u32>,
     empty_net_changes: u32,
     net_changes: u32,
+}
+
+impl Met {
+    /// Notes a side that pages would not have chosen, and a tie.
+    fn outset(&mut self, store: &Store, t: u64, name: &'static str, side: Side) {
+        if !store.audit() {
+            return;
+        }
+        if side != side_by_pages(store, t) {
+            *self.other_by_pages.entry((name, side == Side::Later)).or_default() += 1;
+        }
+        let records = store.records();
+        let [before, after] = candidates(store, t).map(|held| records_between(&records, held.time, t));
+        if before == after && before > 0 {
+            *self.ties.entry(name).or_default() += 1;
+        }
+    }
 }
 
 fn name(call: &Call) -> &'static str {
@@ -77,14 +99,17 @@ fn make(store: &mut Store, call: Call, met: &mut Met) -> Result<(), Refusal> {
         Call::Delete(time, article) => store.delete(time, article),
         Call::Update(time, article, count) => store.update(time, article, count),
         Call::Position(t) => store.position(t).map(drop),
-        Call::Table(t, length) => store.table(t, &mut vec![0; length]).map(drop),
+        Call::Table(t, length) => store.table(t, &mut vec![0; length]).map(|answer| {
+            met.outset(store, t, "table", answer.side);
+        }),
         Call::View(t) => store.view(t).map(|view| {
             let place = match view.place {
                 Place::Empty => "empty",
                 Place::File(_) => "area",
                 Place::Current => "current",
             };
-            *met.views.entry((place, view.side == Side::Later, view.distance == 0)).or_default() += 1;
+            *met.views.entry((place, view.side == Side::Later, view.requests_between == 0)).or_default() += 1;
+            met.outset(store, t, "view", view.side);
         }),
         Call::NetChange(a, b, output, workspace) => {
             store.net_change(a, b, &mut vec![0; output], &mut vec![0; workspace]).map(|entries| {
@@ -191,11 +216,23 @@ fn settings_and_sizes_are_varied() {
 fn answers_are_varied() {
     let met = lists();
     for (place, later) in [("empty", false), ("area", false), ("area", true), ("current", true)] {
-        for no_distance in [false, true] {
-            assert!(met.views[&(place, later, no_distance)] > 50, "{place}, later: {later}");
+        for none_between in [false, true] {
+            assert!(met.views[&(place, later, none_between)] > 50, "{place}, later: {later}");
         }
     }
     assert!(met.empty_net_changes > 100 && met.net_changes > 2 * met.empty_net_changes);
+}
+
+/// A store that still counts pages is found out, whichever way it errs, and so is one that takes the later
+/// outset on a tie.
+#[test]
+fn sides_are_other_than_by_pages() {
+    let Met { other_by_pages, ties, .. } = lists();
+    for name in ["table", "view"] {
+        assert!(other_by_pages[&(name, true)] > 500, "{other_by_pages:?}");
+        assert!(other_by_pages[&(name, false)] >= 20, "{other_by_pages:?}");
+        assert!(ties[name] > 100, "{ties:?}");
+    }
 }
 
 /// Every later call, on memory that question 1 passes and the audit denies.

@@ -60,8 +60,9 @@ fn an_update_split_over_two_pages_is_on_the_later_one() {
     let store = opened_with(3, 2, 4, &[Insert(10, 7, 50), Update(20, 7, 50, 44)]);
     assert_eq!(store.keys(), [10, 20]);
     assert_eq!((position(&store, 19).0, position(&store, 20).0), (0, 1));
+    // three requests against none, and one against the update's two
     assert_eq!(outset(&store, 20), (Side::Later, 0));
-    assert_eq!(outset(&store, 19), (Side::Earlier, 0));
+    assert_eq!(outset(&store, 19), (Side::Earlier, 1));
 }
 
 /// d = 3, keys 10 to 200 by tens: 185 is above the separator 180 and below the next leaf's first

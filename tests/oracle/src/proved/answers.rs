@@ -26,26 +26,26 @@ pub fn position(answer: YkPosition) -> Result<Position, Refusal> {
 
 pub fn table(answer: YkTable) -> Result<TableAnswer, Refusal> {
     match answer {
-        YkTable { question: 0, rows, later, distance } => {
-            Ok(TableAnswer { rows, side: side(later), distance })
+        YkTable { question: 0, rows, later, requests_between } => {
+            Ok(TableAnswer { rows, side: side(later), requests_between })
         }
-        YkTable { question: question @ 1..=16, rows: 0, later: 0, distance: 0 } => refused(question),
+        YkTable { question: question @ 1..=16, rows: 0, later: 0, requests_between: 0 } => refused(question),
         other => panic!("{other:?} is no answer"),
     }
 }
 
 pub fn view(answer: YkView) -> Result<View, Refusal> {
-    let YkView { question, place, area, rows, later, distance, start, length } = answer;
+    let YkView { question, place, area, rows, later, requests_between, start, length } = answer;
     let place = match (question, place, area) {
         (0, 0, 0) => Place::Empty,
         (0, 1, area) => Place::File(area as usize),
         (0, 2, 0) => Place::Current,
-        (1..=16, 0, 0) if (rows, later, distance, start, length) == (0, 0, 0, 0, 0) => {
+        (1..=16, 0, 0) if (rows, later, requests_between, start, length) == (0, 0, 0, 0, 0) => {
             return refused(question)
         }
         _ => panic!("{answer:?} is no answer"),
     };
-    Ok(View { place, rows, start, length, side: side(later), distance })
+    Ok(View { place, rows, start, length, side: side(later), requests_between })
 }
 
 pub fn net_change(answer: YkNetChange) -> Result<u32, Refusal> {

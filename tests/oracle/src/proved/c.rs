@@ -25,7 +25,7 @@ pub struct YkTable {
     pub question: u8,
     pub rows: u32,
     pub later: u8,
-    pub distance: u32,
+    pub requests_between: u32,
 }
 
 #[repr(C)]
@@ -36,7 +36,7 @@ pub struct YkView {
     pub area: u32,
     pub rows: u32,
     pub later: u8,
-    pub distance: u32,
+    pub requests_between: u32,
     pub start: usize,
     pub length: usize,
 }

@@ -3,9 +3,9 @@
 
 pub mod legal;
 
-use oracle::layout::{Header, Row};
+use oracle::layout::{Header, Record, Row};
 use oracle::net_change::output_length;
-use oracle::outset::{Entry, Side};
+use oracle::outset::{earlier_candidate, later_candidate, Entry, Held, Side};
 use oracle::position::Position;
 use oracle::samples::{log_by_hand, log_of, records_of, Request};
 use oracle::store::{capacity, Lengths, Memory, Refusal, Store, TableAnswer};
@@ -93,10 +93,35 @@ pub fn rows(list: &[(u32, u32)]) -> Vec<Row> {
     list.iter().map(|&(article, count)| Row { article, count }).collect()
 }
 
-/// Side and distance of the table of t.
+/// Side and requests between of the table of t.
 pub fn outset(store: &Store, t: u64) -> (Side, u32) {
     let answer = table(store, t).1;
-    (answer.side, answer.distance)
+    (answer.side, answer.requests_between)
+}
+
+/// The requests between two times, stated a second time and without a position: the records after the
+/// one and at or before the other.
+pub fn records_between(records: &[Record], a: u64, b: u64) -> u32 {
+    let (low, high) = (a.min(b), a.max(b));
+    records.iter().filter(|record| low < record.time && record.time <= high).count() as u32
+}
+
+/// 01's two candidates for t.
+pub fn candidates(store: &Store, t: u64) -> [Held; 2] {
+    let (kept, last) = (store.kept(), store.numbers.last);
+    [earlier_candidate(kept, last, t), later_candidate(kept, last, t)]
+}
+
+/// The side that 01 chose before wish 6, when pages were counted: what a store that missed the wish
+/// answers.
+pub fn side_by_pages(store: &Store, t: u64) -> Side {
+    let here = position(store, t).0;
+    let [earlier, later] = candidates(store, t).map(|held| position(store, held.time).0.abs_diff(here));
+    if later < earlier {
+        Side::Later
+    } else {
+        Side::Earlier
+    }
 }
 
 /// The entries of the net change from a to b as (kind, article, count).
