@@ -10,8 +10,10 @@ use native.Mathlib.Nat.{le-refl, le-trans, le-of-lt}
 use lib.Dec.{leb, ltb}
 use borrow.Author.Tests.{leb-true, leb-false, ltb-true, ltb-false}
 use Rattle.model.specs.declared.Held.{Held}
+use Rattle.model.specs.declared.Chosen.{Chosen}
 use Rattle.model.specs.declared.Side.the-variants.{Earlier, Later}
-use Rattle.model.specs.Outset.{emptyTable, latest, earliest, apart, between, chosen, chooseBy}
+use Rattle.model.specs.Outset.{emptyTable, latest, earliest, apart, between, chooseBy}
+use Rattle.model.proofs.ChoiceLaws.{Choice, choice}
 
 -- ---- one table looked at: what holds of either outcome holds of the one kept
 
@@ -139,33 +141,35 @@ apart-above x y z p q = omega arith
 module _ (f : ℕ → ℕ) (t : ℕ) (early late : Held) where
   -- the choice is no farther than either candidate
   pub chosen-no-farther : (chooseBy f t early late .between ≤ between f t early) × (chooseBy f t early late .between ≤ between f t late)
-  unfolding chooseBy
-  chosen-no-farther = by-test (ltb (between f t late) (between f t early)) refl
+  chosen-no-farther = by (chooseBy f t early late) (choice f t early late)
     where
-      by-test : (b : Bool) → ltb (between f t late) (between f t early) ≡ b
-          → (cond b (chosen f t late Later) (chosen f t early Earlier) .between ≤ between f t early) × (cond b (chosen f t late Later) (chosen f t early Earlier) .between ≤ between f t late)
-      by-test true e = (le-of-lt (ltb-true _ _ e), le-refl (between f t late))
-      by-test false e = (le-refl (between f t early), ltb-false _ _ e)
+      by : (c : Chosen) → Choice f t early late c → (c .between ≤ between f t early) × (c .between ≤ between f t late)
+      by c (Choice.later h) = (le-of-lt h, le-refl (between f t late))
+      by c (Choice.earlier h) = (le-refl (between f t early), h)
 
   -- the outset is the candidate on the side that is said
   pub chosen-side : (chooseBy f t early late .side ≡ Earlier → chooseBy f t early late .outset ≡ early) × (chooseBy f t early late .side ≡ Later → chooseBy f t early late .outset ≡ late)
-  unfolding chooseBy
-  chosen-side = by-test (ltb (between f t late) (between f t early))
+  chosen-side = by (chooseBy f t early late) (choice f t early late)
     where
-      by-test : (b : Bool) → (cond b (chosen f t late Later) (chosen f t early Earlier) .side ≡ Earlier → cond b (chosen f t late Later) (chosen f t early Earlier) .outset ≡ early)
-          × (cond b (chosen f t late Later) (chosen f t early Earlier) .side ≡ Later → cond b (chosen f t late Later) (chosen f t early Earlier) .outset ≡ late)
-      by-test true = (λ e. cc, λ e. refl)
-      by-test false = (λ e. refl, λ e. cc)
+      by : (c : Chosen) → Choice f t early late c → (c .side ≡ Earlier → c .outset ≡ early) × (c .side ≡ Later → c .outset ≡ late)
+      by c (Choice.later h) = (λ e. cc, λ e. refl)
+      by c (Choice.earlier h) = (λ e. refl, λ e. cc)
+
+  -- what is said lies between the outset and t
+  pub chosen-between : chooseBy f t early late .between ≡ between f t (chooseBy f t early late .outset)
+  chosen-between = by (chooseBy f t early late) (choice f t early late)
+    where
+      by : (c : Chosen) → Choice f t early late c → c .between ≡ between f t (c .outset)
+      by c (Choice.later h) = refl
+      by c (Choice.earlier h) = refl
 
   -- the later candidate is strictly nearer where it is chosen
   pub chosen-later : chooseBy f t early late .side ≡ Later → chooseBy f t early late .between < between f t early
-  unfolding chooseBy
-  chosen-later = by-test (ltb (between f t late) (between f t early)) refl
+  chosen-later = by (chooseBy f t early late) (choice f t early late)
     where
-      by-test : (b : Bool) → ltb (between f t late) (between f t early) ≡ b → cond b (chosen f t late Later) (chosen f t early Earlier) .side ≡ Later
-          → cond b (chosen f t late Later) (chosen f t early Earlier) .between < between f t early
-      by-test true e is = ltb-true _ _ e
-      by-test false e is = let no : between f t early ≡ suc (between f t early) = cc in omega arith
+      by : (c : Chosen) → Choice f t early late c → c .side ≡ Later → c .between < between f t early
+      by c (Choice.later h) e = h
+      by c (Choice.earlier h) e = let no : between f t early ≡ suc (between f t early) = cc in omega arith
 
 module _ (f : ℕ → ℕ) (rises : (x y : ℕ) → x ≤ y → f x ≤ f y) (t : ℕ) (cur : Held) (fs : List Held) (reaches : t ≤ cur .time) where
   abbrev early : Held
@@ -206,16 +210,12 @@ module _ (f : ℕ → ℕ) (rises : (x y : ℕ) → x ≤ y → f x ≤ f y) (t 
 
   -- the outset chosen is a held table
   pub chosen-held : List·Memᴰ (chooseBy f t early late .outset) (emptyTable ∷ (fs ++ (cur ∷ [])))
-  unfolding chooseBy
-  chosen-held = by-test (ltb (between f t late) (between f t early))
+  chosen-held = by (chooseBy f t early late) (choice f t early late)
     where
-      of-early : List·Memᴰ early (emptyTable ∷ (fs ++ (cur ∷ [])))
-      of-early = Memᴰ·append-left (cur ∷ []) (latest-member t emptyTable fs)
-
       of-late : (late ≡ cur) ⊎ List·Memᴰ late fs → List·Memᴰ late (emptyTable ∷ (fs ++ (cur ∷ [])))
       of-late (inl e) = List·Memᴰ·tail (Memᴰ·append-right fs (List·Memᴰ·head e))
       of-late (inr n) = List·Memᴰ·tail (Memᴰ·append-left (cur ∷ []) n)
 
-      by-test : (b : Bool) → List·Memᴰ (cond b (chosen f t late Later) (chosen f t early Earlier) .outset) (emptyTable ∷ (fs ++ (cur ∷ [])))
-      by-test true = of-late (List·Memᴰ·cases-cons (earliest-member t cur fs))
-      by-test false = of-early
+      by : (c : Chosen) → Choice f t early late c → List·Memᴰ (c .outset) (emptyTable ∷ (fs ++ (cur ∷ [])))
+      by c (Choice.later h) = of-late (List·Memᴰ·cases-cons (earliest-member t cur fs))
+      by c (Choice.earlier h) = Memᴰ·append-left (cur ∷ []) (latest-member t emptyTable fs)

@@ -3,48 +3,30 @@
 use Prim.Native.Nat.{ℕ, _*_, _≤_}
 use mathlib.Core.Path.{_≡_, refl, _∙_}
 use mathlib.Core.List.{List, List·Memᴰ}
-use mathlib.Core.Bool.{Bool, true, false, cond}
 use lib.ListN.{length}
-use lib.Dec.{ltb}
 use Rattle.model.specs.declared.Held.{Held}
-use Rattle.model.specs.declared.Side.the-variants.{Earlier, Later}
+use Rattle.model.specs.declared.Chosen.{Chosen}
 use Rattle.model.specs.Memory.{State, logOf}
-use Rattle.model.specs.Outset.{held, filesHeld, currentTable, measure, between, chosen, chooseBy, earlierFor, laterFor, outsetFor}
+use Rattle.model.specs.Outset.{held, filesHeld, currentTable, measure, between, earlierFor, laterFor, outsetFor}
 use Rattle.model.specs.Queries.{tableSaid, tableOf}
 use Rattle.model.specs.Audit.{Audited}
 use Rattle.model.specs.Demands.{candidate, OutsetIsNearest}
 use Rattle.model.proofs.UpToLaws.{records-up-to-le}
+use Rattle.model.proofs.ChoiceLaws.{Choice, choice}
 use Rattle.model.proofs.BetweenLaws.{counts-between}
-use Rattle.catalogue.proofs.Nearest.{nearest, chosen-held, chosen-later}
+use Rattle.catalogue.proofs.Nearest.{nearest, chosen-held, chosen-between, chosen-later}
 use Rattle.claims.proofs.Regions.{answered}
 use Rattle.claims.proofs.SecondDemands.{table-answered}
 
 module _ (st : State) (t : ℕ) where
   -- the outset used is the candidate on the side answered
   pub outset-candidate : outsetFor st t .outset ≡ candidate st t (outsetFor st t .side)
-  unfolding chooseBy candidate
-  outset-candidate = by (ltb (between (measure st) t (laterFor st t)) (between (measure st) t (earlierFor st t)))
+  unfolding candidate
+  outset-candidate = by (outsetFor st t) (choice (measure st) t (earlierFor st t) (laterFor st t))
     where
-      f : ℕ → ℕ
-      f = measure st
-
-      by : (b : Bool) → cond b (chosen f t (laterFor st t) Later) (chosen f t (earlierFor st t) Earlier) .outset
-          ≡ candidate st t (cond b (chosen f t (laterFor st t) Later) (chosen f t (earlierFor st t) Earlier) .side)
-      by true = refl
-      by false = refl
-
-  -- and what is reported lies between it and t
-  pub outset-between : outsetFor st t .between ≡ between (measure st) t (outsetFor st t .outset)
-  unfolding chooseBy
-  outset-between = by (ltb (between (measure st) t (laterFor st t)) (between (measure st) t (earlierFor st t)))
-    where
-      f : ℕ → ℕ
-      f = measure st
-
-      by : (b : Bool) → cond b (chosen f t (laterFor st t) Later) (chosen f t (earlierFor st t) Earlier) .between
-          ≡ between f t (cond b (chosen f t (laterFor st t) Later) (chosen f t (earlierFor st t) Earlier) .outset)
-      by true = refl
-      by false = refl
+      by : (c : Chosen) → Choice (measure st) t (earlierFor st t) (laterFor st t) c → c .outset ≡ candidate st t (c .side)
+      by c (Choice.later h) = refl
+      by c (Choice.earlier h) = refl
 
   -- the measure never falls
   measure-rises : (x y : ℕ) → x ≤ y → measure st x ≤ measure st y
@@ -62,7 +44,7 @@ module _ (st : State) (t : ℕ) where
         said = tableSaid st t;
         answered = table-answered st t out ok h l;
         is-held = rw (← outset-candidate) (outset-held h);
-        reported = rw (← outset-candidate) (outset-between ∙ counts-between st t (outsetFor st t .outset));
+        reported = rw (← outset-candidate) (chosen-between (measure st) t (earlierFor st t) (laterFor st t) ∙ counts-between st t (outsetFor st t .outset));
         nearest = λ c m. rw (← counts-between st t c) (outset-nearest h c m);
         later-nearer = λ e. rw (← counts-between st t (earlierFor st t)) (chosen-later (measure st) t (earlierFor st t) (laterFor st t) e);
       }

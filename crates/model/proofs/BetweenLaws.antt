@@ -11,6 +11,7 @@ use borrow.Author.Tests.{lt-ltb, le-ltb, leb-true, leb-false}
 use Rattle.codec.specs.LittleEndian.{number, bytes}
 use Rattle.model.specs.declared.Entry.{Entry}
 use Rattle.model.specs.declared.Held.{Held}
+use Rattle.model.specs.declared.Chosen.{Chosen}
 use Rattle.model.specs.declared.Side.the-variants.{Earlier, Later}
 use Rattle.model.specs.declared.Place.the-variants.{Area}
 use Rattle.model.specs.Records.{Rec, insertion, deletion, recordBytes, recordsBytes, recordIn, records}
@@ -18,8 +19,9 @@ use Rattle.model.specs.Timeslice.{upTo}
 use Rattle.model.specs.Pages.{pageTimesFrom, recordsUpTo}
 use Rattle.model.specs.Tree.{keysUpTo}
 use Rattle.model.specs.Memory.{State, state, logOf}
-use Rattle.model.specs.Outset.{filesFrom, latest, earliest, apart, between, measure, chosen, chooseBy, earlierFor, laterFor, outsetFor}
-use Rattle.model.specs.Between.{recordsBetween, requestsBetween, CountsBetween, FewestChosen}
+use Rattle.model.specs.Outset.{filesFrom, latest, earliest, apart, between, measure, chooseBy, earlierFor, laterFor, outsetFor}
+use Rattle.model.specs.Between.{recordsBetween, requestsBetween, CountsBetween, Fewest, FewestChosen}
+use Rattle.model.proofs.ChoiceLaws.{Choice, choice}
 
 -- ---- 01's log, computed: requests up to 10, 20, 30, 40, 50, 60 are 1, 2, 4, 5, 6, 8
 
@@ -53,17 +55,6 @@ tie-earlier = refl
 three-between : (requestsBetween (with []) 10 30 ∷ requestsBetween (with []) 30 10 ∷ requestsBetween (with []) 30 40 ∷ []) ≡ 3 ∷ 3 ∷ 1 ∷ []
 unfolding number bytes recordBytes recordsBytes recordIn records recordsBetween
 three-between = refl
-
--- ---- the choice between two, by any measure
-
-module _ (f : ℕ → ℕ) (t : ℕ) (early late : Held) where
-  choose-later : between f t late < between f t early → chooseBy f t early late ≡ chosen f t late Later
-  unfolding chooseBy
-  choose-later h = rw (lt-ltb _ _ h)
-
-  choose-earlier : between f t early ≤ between f t late → chooseBy f t early late ≡ chosen f t early Earlier
-  unfolding chooseBy
-  choose-earlier h = rw (le-ltb _ _ h)
 
 -- ---- records between
 
@@ -103,13 +94,14 @@ pub counts-between : CountsBetween
 counts-between st t h = apart-between t (h .time) (logOf st)
 
 pub fewest-chosen : FewestChosen
-fewest-chosen st t = (
-  λ h. rw (← after) (choose-later (measure st) t (earlierFor st t) (laterFor st t) (rw (before, after) h)),
-  λ h. rw (← before) (choose-earlier (measure st) t (earlierFor st t) (laterFor st t) (rw (before, after) h)),
-)
+fewest-chosen st t = by (outsetFor st t) (choice (measure st) t (earlierFor st t) (laterFor st t))
   where
     before : between (measure st) t (earlierFor st t) ≡ requestsBetween st t (earlierFor st t .time)
     before = counts-between st t (earlierFor st t)
 
     after : between (measure st) t (laterFor st t) ≡ requestsBetween st t (laterFor st t .time)
     after = counts-between st t (laterFor st t)
+
+    by : (c : Chosen) → Choice (measure st) t (earlierFor st t) (laterFor st t) c → Fewest st t c
+    by c (Choice.later h) = (λ g. rw after, λ g. absurd (omega (arith, before, after)))
+    by c (Choice.earlier h) = (λ g. absurd (omega (arith, before, after)), λ g. rw before)

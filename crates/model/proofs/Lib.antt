@@ -14,6 +14,7 @@ pub mod KeyLaws
 pub mod PageCounts
 pub mod PageLaws
 pub mod PositionLaws
+pub mod ChoiceLaws
 pub mod BetweenLaws
 pub mod PromiseLaws
 pub mod AppendLaws

@@ -8,6 +8,7 @@ use mathlib.Core.Bool.{cond, _&&_}
 use lib.ListN.{length}
 use lib.Dec.{leb, ltb}
 use Rattle.model.specs.declared.Held.{Held}
+use Rattle.model.specs.declared.Chosen.{Chosen}
 use Rattle.model.specs.declared.Side.the-variants.{Earlier, Later}
 use Rattle.model.specs.Records.{Rec}
 use Rattle.model.specs.Memory.{State, logOf}
@@ -22,15 +23,18 @@ recordsBetween a b (r ∷ rs) = cond (ltb a (r .time) && leb (r .time) b) (r ∷
 abbrev pub requestsBetween : State → ℕ → ℕ → ℕ
 requestsBetween st t u = length (recordsBetween (min t u) (max t u) (logOf st))
 
--- in every memory the larger less the smaller of two request counts is their number
+-- the larger less the smaller of two request counts is their number, in every memory
 abbrev pub CountsBetween : Type 0
 CountsBetween = (st : State) (t : ℕ) (h : Held) → between (measure st) t h ≡ requestsBetween st t (h .time)
 
 -- "of 01's two, the one with fewest requests between it and the wanted time, and the earlier one on a tie"
-abbrev pub FewestChosen : Type 0
-FewestChosen =
-    (st : State) (t : ℕ)
-    → let before = requestsBetween st t (earlierFor st t .time) in
+abbrev pub Fewest : State → ℕ → Chosen → Type 0
+Fewest st t c =
+    let before = requestsBetween st t (earlierFor st t .time) in
     let after = requestsBetween st t (laterFor st t .time) in
-    (after < before → outsetFor st t ≡ record { outset = laterFor st t; side = Later; between = after })
-    × (before ≤ after → outsetFor st t ≡ record { outset = earlierFor st t; side = Earlier; between = before })
+    (after < before → c ≡ record { outset = laterFor st t; side = Later; between = after })
+    × (before ≤ after → c ≡ record { outset = earlierFor st t; side = Earlier; between = before })
+
+-- so is the outset used, in every memory
+abbrev pub FewestChosen : Type 0
+FewestChosen = (st : State) (t : ℕ) → Fewest st t (outsetFor st t)

@@ -4,17 +4,15 @@ use Prim.Native.Nat.{ℕ, suc, _*_, _≤_, zero-le}
 use mathlib.Core.Path.{_≡_, sym, ap, _∙_}
 use mathlib.Core.Logic.{_⊎_, inl, inr}
 use mathlib.Core.List.{List, [], _∷_, _++_, List·Memᴰ, List·Memᴰ·not-nil, List·Memᴰ·cases-cons, List·Memᴰ·append-cases, List·Memᴰ·eq-of-singleton}
-use mathlib.Core.Bool.{Bool, true, false, cond}
 use native.Mathlib.Omega.{arith}
 use lib.ListN.{length, take, drop}
 use lib.Seq.{take-take}
-use lib.Dec.{ltb}
 use Rattle.codec.specs.Parts.{part}
 use Rattle.model.specs.declared.Entry.{Entry}
 use Rattle.model.specs.declared.Held.{Held}
 use Rattle.model.specs.declared.Position.{Position}
+use Rattle.model.specs.declared.Chosen.{Chosen}
 use Rattle.model.specs.declared.Place.the-variants.{Area}
-use Rattle.model.specs.declared.Side.the-variants.{Earlier, Later}
 use Rattle.model.specs.Rows.{Row, rowsBytes, tableBytes}
 use Rattle.model.specs.Timeslice.{timeslice}
 use Rattle.model.specs.Pages.{recordsUpTo}
@@ -22,12 +20,13 @@ use Rattle.model.specs.Numbering.{nodeWord}
 use Rattle.model.specs.Tree.{Packed}
 use Rattle.model.specs.Memory.{State, logOf, keysOf}
 use Rattle.model.specs.Positions.{positionAt}
-use Rattle.model.specs.Outset.{emptyTable, currentTable, filesFrom, filesHeld, held, between, measure, earlierFor, laterFor, chosen, chooseBy, outsetFor}
+use Rattle.model.specs.Outset.{emptyTable, currentTable, filesFrom, filesHeld, held, measure, earlierFor, laterFor, outsetFor}
 use Rattle.model.specs.Queries.{rowsPart}
 use Rattle.model.specs.Files.{filesIn}
 use Rattle.model.specs.Facts.{FileIs, FilesAre, AuditedFacts}
 use Rattle.model.proofs.TimeLaws.{timeslice-rows, timeslice-zero}
 use Rattle.model.proofs.UpToLaws.{records-up-to-le}
+use Rattle.model.proofs.ChoiceLaws.{Choice, choice}
 use Rattle.model.proofs.PageLaws.{length-page-times}
 use Rattle.model.proofs.RecordLaws.{length-records}
 use Rattle.tree.proofs.Written.{with-packed}
@@ -128,10 +127,10 @@ chosen-holds st f t h =
 -- the earlier one's records end before those up to t, the later one's after them
 pub chosen-on-side : (st : State) (t : ℕ) → t ≤ st .numbers .last
     → OnSide (outsetFor st t .side) (recordsUpTo (outsetFor st t .outset .time) (logOf st)) (recordsUpTo t (logOf st))
-unfolding chooseBy OnSide
-chosen-on-side st t h = by (ltb (between (measure st) t (laterFor st t)) (between (measure st) t (earlierFor st t)))
+unfolding OnSide
+chosen-on-side st t h = by (outsetFor st t) (choice (measure st) t (earlierFor st t) (laterFor st t))
   where
-    by : (b : Bool) → let c = cond b (chosen (measure st) t (laterFor st t) Later) (chosen (measure st) t (earlierFor st t) Earlier) in
-        OnSide (c .side) (recordsUpTo (c .outset .time) (logOf st)) (recordsUpTo t (logOf st))
-    by true = records-up-to-le t (laterFor st t .time) (logOf st) (earliest-after t (currentTable st) (filesHeld st) h)
-    by false = records-up-to-le (earlierFor st t .time) t (logOf st) (latest-before t emptyTable (filesHeld st) zero-le)
+    by : (c : Chosen) → Choice (measure st) t (earlierFor st t) (laterFor st t) c
+        → OnSide (c .side) (recordsUpTo (c .outset .time) (logOf st)) (recordsUpTo t (logOf st))
+    by c (Choice.later g) = records-up-to-le t (laterFor st t .time) (logOf st) (earliest-after t (currentTable st) (filesHeld st) h)
+    by c (Choice.earlier g) = records-up-to-le (earlierFor st t .time) t (logOf st) (latest-before t emptyTable (filesHeld st) zero-le)
