@@ -6,16 +6,14 @@ use mathlib.Core.List.{List, List·Memᴰ}
 use lib.ListN.{length}
 use Rattle.model.specs.declared.Held.{Held}
 use Rattle.model.specs.declared.Chosen.{Chosen}
-use Rattle.model.specs.Memory.{State, logOf}
+use Rattle.model.specs.Memory.{State}
 use Rattle.model.specs.Outset.{held, filesHeld, currentTable, measure, between, earlierFor, laterFor, outsetFor}
 use Rattle.model.specs.Queries.{tableSaid, tableOf}
 use Rattle.model.specs.Audit.{Audited}
 use Rattle.model.specs.Demands.{candidate, OutsetIsNearest}
-use Rattle.model.proofs.UpToLaws.{records-up-to-le}
 use Rattle.model.proofs.ChoiceLaws.{Choice, choice}
-use Rattle.model.proofs.BetweenLaws.{counts-between}
+use Rattle.model.proofs.BetweenLaws.{requests-rise, counts-between}
 use Rattle.catalogue.proofs.Nearest.{nearest, chosen-held, chosen-between, chosen-later}
-use Rattle.claims.proofs.Regions.{answered}
 use Rattle.claims.proofs.SecondDemands.{table-answered}
 
 module _ (st : State) (t : ℕ) where
@@ -28,15 +26,11 @@ module _ (st : State) (t : ℕ) where
       by c (Choice.later h) = refl
       by c (Choice.earlier h) = refl
 
-  -- the measure never falls
-  measure-rises : (x y : ℕ) → x ≤ y → measure st x ≤ measure st y
-  measure-rises x y h = records-up-to-le x y (logOf st) h
-
   pub outset-held : t ≤ st .numbers .last → List·Memᴰ (outsetFor st t .outset) (held st)
-  outset-held h = chosen-held (measure st) measure-rises t (currentTable st) (filesHeld st) h
+  outset-held h = chosen-held (measure st) (requests-rise st) t (currentTable st) (filesHeld st) h
 
   pub outset-nearest : t ≤ st .numbers .last → (x : Held) → List·Memᴰ x (held st) → outsetFor st t .between ≤ between (measure st) t x
-  outset-nearest h = nearest (measure st) measure-rises t (currentTable st) (filesHeld st) h
+  outset-nearest h = nearest (measure st) (requests-rise st) t (currentTable st) (filesHeld st) h
 
   pub outset-is-nearest : (out : List ℕ) → Audited st → t ≤ st .numbers .last → 8 * st .numbers .limit ≤ length out → OutsetIsNearest st t (tableOf st t out)
   outset-is-nearest out ok h l =

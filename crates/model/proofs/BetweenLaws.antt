@@ -2,61 +2,27 @@
 -- of records between, and the outset used is the one with fewest, the earlier on a tie. Assumes nothing.
 use Prim.Native.Nat.{ℕ, _+_, _≤_, _<_, max, min}
 use mathlib.Core.Path.{_≡_, refl}
-use mathlib.Core.List.{List, [], _∷_, _++_}
+use mathlib.Core.List.{List, [], _∷_}
 use mathlib.Core.Bool.{Bool, true, false}
 use native.Mathlib.Omega.{arith}
-use lib.ListN.{length, replicate}
+use lib.ListN.{length}
 use lib.Dec.{leb}
 use borrow.Author.Tests.{lt-ltb, le-ltb, leb-true, leb-false}
 use Rattle.codec.specs.LittleEndian.{number, bytes}
-use Rattle.model.specs.declared.Entry.{Entry}
-use Rattle.model.specs.declared.Held.{Held}
 use Rattle.model.specs.declared.Chosen.{Chosen}
-use Rattle.model.specs.declared.Side.the-variants.{Earlier, Later}
-use Rattle.model.specs.declared.Place.the-variants.{Area}
-use Rattle.model.specs.Records.{Rec, insertion, deletion, recordBytes, recordsBytes, recordIn, records}
+use Rattle.model.specs.Records.{Rec, recordBytes, recordsBytes, recordIn, records}
 use Rattle.model.specs.Timeslice.{upTo}
-use Rattle.model.specs.Pages.{pageTimesFrom, recordsUpTo}
-use Rattle.model.specs.Tree.{keysUpTo}
-use Rattle.model.specs.Memory.{State, state, logOf}
-use Rattle.model.specs.Outset.{filesFrom, latest, earliest, apart, between, measure, chooseBy, earlierFor, laterFor, outsetFor}
+use Rattle.model.specs.Pages.{recordsUpTo}
+use Rattle.model.specs.Memory.{State, logOf}
+use Rattle.model.specs.Outset.{apart, between, measure, earlierFor, laterFor, outsetFor}
 use Rattle.model.specs.Between.{recordsBetween, requestsBetween, CountsBetween, Fewest, FewestChosen}
-use Rattle.model.proofs.ChoiceLaws.{Choice, choice}
+use Rattle.model.proofs.UpToLaws.{records-up-to-le}
+use Rattle.model.proofs.ChoiceLaws.{with, Choice, choice}
 
--- ---- 01's log, computed: requests up to 10, 20, 30, 40, 50, 60 are 1, 2, 4, 5, 6, 8
-
-abbrev workedLog : List Rec
-workedLog =
-    insertion 0 10 7 50 ∷ insertion 1 20 3 12 ∷ deletion 2 30 7 50 ∷ insertion 3 30 7 44 ∷ deletion 4 40 3 12 ∷ insertion 5 50 9 5
-    ∷ deletion 6 60 9 5 ∷ insertion 7 60 9 6 ∷ []
-
--- what the choice of an outset looks at, with these count files
-abbrev with : List Entry → State
-with files =
-    state (record { order = 3; page = 2; limit = 4; records = 8; last = 60; live = 2; files = length files })
-    (record { log = replicate 24 0 ++ recordsBytes workedLog; index = []; table = []; catalogue = files; areas = [] })
-
-abbrev kept : ℕ → ℕ → Entry
-kept t k = record { time = t; rows = k }
-
-abbrev file : ℕ → ℕ → ℕ → Held
-file i t k = record { time = t; place = Area i; rows = k }
-
--- "three requests against one, so the later is used"
-fewer-later : outsetFor (with (kept 10 1 ∷ kept 40 1 ∷ [])) 30 ≡ record { outset = file 1 40 1; side = Later; between = 1 }
-unfolding number bytes recordBytes recordsBytes recordIn records upTo pageTimesFrom keysUpTo filesFrom latest earliest chooseBy
-fewer-later = refl
-
--- "45 with 20 kept is now a tie of three and starts from 20"
-tie-earlier : outsetFor (with (kept 20 2 ∷ [])) 45 ≡ record { outset = file 0 20 2; side = Earlier; between = 3 }
-unfolding number bytes recordBytes recordsBytes recordIn records upTo pageTimesFrom keysUpTo filesFrom latest earliest chooseBy
-tie-earlier = refl
-
+-- computed on 01's log, in either order
 three-between : (requestsBetween (with []) 10 30 ∷ requestsBetween (with []) 30 10 ∷ requestsBetween (with []) 30 40 ∷ []) ≡ 3 ∷ 3 ∷ 1 ∷ []
 unfolding number bytes recordBytes recordsBytes recordIn records recordsBetween
 three-between = refl
-
--- ---- records between
 
 -- those up to b are those up to a and those after it
 up-to-and-between : (a b : ℕ) → a ≤ b → (rs : List Rec) → recordsUpTo a rs + length (recordsBetween a b rs) ≡ recordsUpTo b rs
@@ -89,6 +55,10 @@ apart-between t u rs = by (leb t u) refl
         let low : min t u ≡ u = omega arith in
         let high : max t u ≡ t = omega arith in
         rw (low, high) (omega (arith, up-to-and-between u t (omega arith) rs))
+
+-- the measure of nearness never falls
+pub requests-rise : (st : State) (x y : ℕ) → x ≤ y → measure st x ≤ measure st y
+requests-rise st x y h = records-up-to-le x y (logOf st) h
 
 pub counts-between : CountsBetween
 counts-between st t h = apart-between t (h .time) (logOf st)

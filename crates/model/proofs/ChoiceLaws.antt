@@ -1,14 +1,55 @@
--- The choice between two candidates (01, "Count files"; 02, wish 6), by whatever measure: `choice` tells the two cases apart, so
--- that a law of the choice looks at no test. Assumes nothing.
+-- The choice of an outset (01, "Count files"; 02, wish 6), computed on 01's log; and of any two candidates by any measure: `choice`
+-- tells the two cases apart, so that a law of the choice looks at no test. Assumes nothing.
 use Prim.Native.Nat.{ℕ, _≤_, _<_}
 use mathlib.Core.Path.{_≡_, refl}
+use mathlib.Core.List.{List, [], _∷_, _++_}
 use mathlib.Core.Bool.{Bool, true, false, cond}
+use lib.ListN.{length, replicate}
 use lib.Dec.{ltb}
 use borrow.Author.Tests.{ltb-true, ltb-false}
+use Rattle.codec.specs.LittleEndian.{number, bytes}
+use Rattle.model.specs.declared.Entry.{Entry}
 use Rattle.model.specs.declared.Held.{Held}
 use Rattle.model.specs.declared.Chosen.{Chosen}
 use Rattle.model.specs.declared.Side.the-variants.{Earlier, Later}
-use Rattle.model.specs.Outset.{between, chosen, chooseBy}
+use Rattle.model.specs.declared.Place.the-variants.{Area}
+use Rattle.model.specs.Records.{Rec, insertion, deletion, recordBytes, recordsBytes, recordIn, records}
+use Rattle.model.specs.Timeslice.{upTo}
+use Rattle.model.specs.Pages.{pageTimesFrom}
+use Rattle.model.specs.Tree.{keysUpTo}
+use Rattle.model.specs.Memory.{State, state}
+use Rattle.model.specs.Outset.{filesFrom, latest, earliest, between, chosen, chooseBy, outsetFor}
+
+-- ---- 01's log, computed: requests up to 10, 20, 30, 40, 50, 60 are 1, 2, 4, 5, 6, 8
+
+abbrev workedLog : List Rec
+workedLog =
+    insertion 0 10 7 50 ∷ insertion 1 20 3 12 ∷ deletion 2 30 7 50 ∷ insertion 3 30 7 44 ∷ deletion 4 40 3 12 ∷ insertion 5 50 9 5
+    ∷ deletion 6 60 9 5 ∷ insertion 7 60 9 6 ∷ []
+
+-- what the choice of an outset looks at, with these count files
+abbrev pub with : List Entry → State
+with files =
+    state (record { order = 3; page = 2; limit = 4; records = 8; last = 60; live = 2; files = length files })
+    (record { log = replicate 24 0 ++ recordsBytes workedLog; index = []; table = []; catalogue = files; areas = [] })
+
+abbrev kept : ℕ → ℕ → Entry
+kept t k = record { time = t; rows = k }
+
+abbrev file : ℕ → ℕ → ℕ → Held
+file i t k = record { time = t; place = Area i; rows = k }
+
+-- "three requests against one, so the later is used"
+fewer-later : outsetFor (with (kept 10 1 ∷ kept 40 1 ∷ [])) 30 ≡ record { outset = file 1 40 1; side = Later; between = 1 }
+unfolding number bytes recordBytes recordsBytes recordIn records upTo pageTimesFrom keysUpTo filesFrom latest earliest chooseBy
+fewer-later = refl
+
+-- "45 with 20 kept is now a tie of three and starts from 20"
+tie-earlier : outsetFor (with (kept 20 2 ∷ [])) 45 ≡ record { outset = file 0 20 2; side = Earlier; between = 3 }
+unfolding number bytes recordBytes recordsBytes recordIn records upTo pageTimesFrom keysUpTo filesFrom latest earliest chooseBy
+tie-earlier = refl
+
+-- ---- the two cases
 
 -- the later candidate where less lies between, else the earlier
 pub data Choice (f : ℕ → ℕ) (t : ℕ) (early late : Held) : Chosen → Type 0 where

@@ -27,6 +27,7 @@ use Rattle.model.specs.Facts.{FileIs, FilesAre, AuditedFacts}
 use Rattle.model.proofs.TimeLaws.{timeslice-rows, timeslice-zero}
 use Rattle.model.proofs.UpToLaws.{records-up-to-le}
 use Rattle.model.proofs.ChoiceLaws.{Choice, choice}
+use Rattle.model.proofs.BetweenLaws.{requests-rise}
 use Rattle.model.proofs.PageLaws.{length-page-times}
 use Rattle.model.proofs.RecordLaws.{length-records}
 use Rattle.tree.proofs.Written.{with-packed}
@@ -115,10 +116,6 @@ module _ (st : State) (f : AuditedFacts st) where
       by (inr n) = by-place (List·Memᴰ·append-cases (filesHeld st) n)
 
 -- ---- the outset chosen
-
--- request counts never fall
-requests-rise : (st : State) (x y : ℕ) → x ≤ y → measure st x ≤ measure st y
-requests-rise st x y h = records-up-to-le x y (logOf st) h
 
 pub chosen-holds : (st : State) (f : AuditedFacts st) (t : ℕ) → t ≤ st .numbers .last → Holds st (outsetFor st t .outset)
 chosen-holds st f t h =

@@ -6,7 +6,7 @@ use mathlib.Core.List.{List, [], _∷_, _++_, map}
 use mathlib.Core.Bool.{true, false}
 use native.Mathlib.Omega.{arith}
 use lib.ListN.{getD, replicate}
-use Rattle.model.specs.declared.Side.the-variants.{Earlier, Later}
+use Rattle.model.specs.declared.Side.the-variants.{Earlier}
 use Rattle.model.specs.declared.Place.the-variants.{Area}
 use Rattle.model.specs.Answers.{Outcome, answers, refuses, refusesAt, question}
 use Rattle.model.specs.Records.{noRecord}
