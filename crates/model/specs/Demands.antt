@@ -119,8 +119,9 @@ unfoldable pub candidate : State → ℕ → Side → Held
 candidate st t Earlier = earlierFor st t
 candidate st t Later = laterFor st t
 
--- "Every other outset then held lies at least as many log pages from the wanted time as the one used, whose distance
--- in pages is the one reported", where "The promise that no held outset is nearer is then read in requests"
+-- every other outset then held has at least as many requests between it and the wanted time as the one used, whose
+-- number is the one reported: "Every other outset then held lies at least as many log pages from the wanted time as the
+-- one used, whose distance in pages is the one reported", which since 02's wish 6 "is then read in requests"
 pub record OutsetIsNearest (st : State) (t : ℕ) (table : Written TableSaid) : Type 0 where
   pub said : TableSaid
   pub answered : table .outcome ≡ answers said
