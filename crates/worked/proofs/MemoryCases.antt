@@ -126,8 +126,8 @@ apart-both : (apart 1 3 ∷ apart 3 1 ∷ apart 2 2 ∷ []) ≡ 2 ∷ 2 ∷ 0 �
 unfolding computing
 apart-both = refl
 
--- a kept time answers from itself, earlier, with no request between; the part is its rows and no zeros, and of a file with no row the
--- empty part
+-- a kept time answers from itself, earlier, with no request between; the part is its rows and no zeros, and of a file
+-- with no row the empty part
 from-itself : map (viewOf three) (40 ∷ 20 ∷ 5 ∷ [])
     ≡ seen (Area 2) 1 Earlier 0 (7 ∷ 0 ∷ 0 ∷ 0 ∷ 44 ∷ 0 ∷ 0 ∷ 0 ∷ [])
     ∷ seen (Area 1) 2 Earlier 0 (3 ∷ 0 ∷ 0 ∷ 0 ∷ 12 ∷ 0 ∷ 0 ∷ 0 ∷ 7 ∷ 0 ∷ 0 ∷ 0 ∷ 50 ∷ 0 ∷ 0 ∷ 0 ∷ []) ∷ seen (Area 0) 0 Earlier 0 [] ∷ []

@@ -1,6 +1,6 @@
 -- 01's log by hand ("One log by hand") as a state, and the cases that 01 marks P as one test over one list, those of outsets
--- as 02 has them (wish 6), computed on the definitions that the calls' contracts cite. Outputs are longer than asked: "what lies past them is unchanged".
--- Assumes nothing.
+-- as 02 has them (wish 6), computed on the definitions that the calls' contracts cite. Outputs are longer than asked:
+-- "what lies past them is unchanged". Assumes nothing.
 use Prim.Native.Nat.{ℕ}
 use mathlib.Core.Path.{_≡_, refl}
 use mathlib.Core.List.{List, [], _∷_, _++_, map}
