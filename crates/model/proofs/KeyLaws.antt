@@ -7,7 +7,7 @@ use native.Mathlib.Omega.{arith}
 use lib.ListN.{length, getD}
 use lib.Dec.{leb}
 use borrow.Author.Tests.{lt-leb, leb-true, leb-false}
-use Rattle.model.specs.Tree.{Rising, keysUpTo, pagePosition}
+use Rattle.model.specs.Tree.{Rising, keysUpTo}
 
 pub keys-up-to-le : (keys : List ℕ) (t : ℕ) → keysUpTo keys t ≤ length keys
 unfolding keysUpTo
@@ -17,21 +17,6 @@ keys-up-to-le (x ∷ xs) t = by (keys-up-to-le xs t) (leb x t)
     by : keysUpTo xs t ≤ length xs → (q : Bool) → cond q (suc (keysUpTo xs t)) (keysUpTo xs t) ≤ suc (length xs)
     by ih true = omega arith
     by ih false = omega arith
-
--- a later time has no fewer keys
-pub keys-up-to-later : (keys : List ℕ) (t u : ℕ) → t ≤ u → keysUpTo keys t ≤ keysUpTo keys u
-unfolding keysUpTo
-keys-up-to-later [] t u h = omega arith
-keys-up-to-later (x ∷ xs) t u h = by (keys-up-to-later xs t u h) (leb x t) refl (leb x u) refl
-  where
-    by : keysUpTo xs t ≤ keysUpTo xs u → (p : Bool) → leb x t ≡ p → (q : Bool) → leb x u ≡ q → keysUpTo (x ∷ xs) t ≤ keysUpTo (x ∷ xs) u
-    by ih true e true f = rw (e, f) (omega arith)
-    by ih true e false f =
-        let g : x ≤ t = leb-true _ _ e in
-        let k : u < x = leb-false _ _ f in
-        absurd (omega arith)
-    by ih false e true f = rw (e, f) (omega arith)
-    by ih false e false f = rw (e, f) ih
 
 keys-up-to-none : (keys : List ℕ) (t : ℕ) → ((i : ℕ) → i < length keys → t < getD keys i 0) → keysUpTo keys t ≡ 0
 unfolding keysUpTo
@@ -69,6 +54,3 @@ keys-from (x ∷ xs) t up i h l = by (keys-from xs t (rising-tail x xs up)) (leb
     by ih true e (suc i) g l = let k : suc (keysUpTo xs t) ≤ suc i = rw e at g in ih i (omega arith) (omega arith)
     by ih false e zero g l = leb-false _ _ e
     by ih false e (suc i) g l = rising-later x xs t up (leb-false _ _ e) i (omega arith)
-
-pub page-position-le : (keys : List ℕ) (t u : ℕ) → t ≤ u → pagePosition keys t ≤ pagePosition keys u
-page-position-le keys t u h = omega (arith, keys-up-to-later keys t u h)

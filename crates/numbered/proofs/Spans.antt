@@ -1,6 +1,6 @@
 -- The part that a view's answer names in numbers is the part that the call hands back. Assumes nothing.
 use Prim.Native.Nat.{ℕ, _+_, _-_, _*_, _≤_, min}
-use mathlib.Core.Path.{_≡_, refl, sym, ap, _∙_}
+use mathlib.Core.Path.{_≡_, refl, sym, _∙_}
 use mathlib.Core.List.{List, []}
 use mathlib.Core.Bool.{Bool, true, false, cond}
 use native.Mathlib.Omega.{arith}
@@ -9,12 +9,11 @@ use lib.Seq.{take-all}
 use lib.Dec.{eqb, leb}
 use borrow.Author.Tests.{leb-true, leb-false}
 use Rattle.codec.specs.Parts.{part}
-use Rattle.model.specs.declared.Place.{Place}
 use Rattle.model.specs.declared.Place.the-variants.{Empty, Area, Current}
 use Rattle.model.specs.declared.ViewAnswer.{ViewAnswer}
 use Rattle.model.specs.declared.ViewAnswer.the-variants.{Outset, Refused}
 use Rattle.model.specs.Queries.{rowsPart}
-use Rattle.tables.specs.Parts.{lent, viewedPart}
+use Rattle.tables.specs.Parts.{viewedPart}
 use Rattle.numbered.specs.Answers.{placeOut, spanOf, viewOut}
 
 -- no more is taken than is there
