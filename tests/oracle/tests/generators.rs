@@ -164,7 +164,7 @@ fn listings_are_other_than_by_pages() {
             assert_eq!(later, n - until < until, "case {number}, time {time}");
             let later_by_pages = last_page - page < page;
             assert!(later || !later_by_pages, "case {number}, time {time}");
-            // the last line of a one-page log is no art
+            // the last line of a one-page log turns whatever the counts are, and is left out
             lines += (later && !later_by_pages && until < n) as u32;
             ties += (until == n - until) as u32;
             // an update has one line, and would be one request
