@@ -20,10 +20,10 @@
  *
  * A count file is the table of one time, kept so that tables near it are found sooner. The store holds as many
  * as there are entries and whole areas for, at most 16: the file of entry i has area i, times ascend, and the
- * entries behind the last file are zero. The files kept change no table and no net change, only where a table
- * is worked out from: of the last file at or before its time (without one, the empty table of time 0) and the
- * first file at or after it (without one, the current table) the one with fewer requests between, the earlier
- * one on a tie.
+ * entries behind the last file are zero. The files kept change no table, no net change and no units, only where
+ * they are worked out from: for each time, of the last file at or before it (without one, the empty table of time
+ * 0) and the first file at or after it (without one, the current table) the one with fewer requests between, the
+ * earlier one on a tie.
  *
  * A refused call answers the number of the first question answered no, and leaves all memory and the numbers
  * as they were. But a refused yk_fresh or yk_open answers numbers that are all zero; and at 17 yk_open has
@@ -150,6 +150,16 @@ typedef struct yk_net_change_answer {
     uint32_t entries; /* entries of the net change, 0 where refused */
 } yk_net_change_answer;
 
+typedef struct yk_units_answer {
+    uint8_t question; /* an enum yk_question */
+    uint64_t units;   /* units on hand, below 2^42; 0 where refused */
+} yk_units_answer;
+
+typedef struct yk_units_between_answer {
+    uint8_t question; /* an enum yk_question */
+    int64_t units;    /* units at b less units at a, negative where stock fell; 0 where refused */
+} yk_units_between_answer;
+
 /* How long each region must be. */
 typedef struct yk_lengths {
     uint8_t question; /* an enum yk_question; all else is 0 where refused */
@@ -225,6 +235,19 @@ yk_net_change_answer yk_net_change(yk_numbers numbers, const uint8_t *log, size_
     const yk_entry *entries, size_t entries_length, const uint8_t *areas, size_t areas_length, uint64_t a,
     uint64_t b, uint8_t *out, size_t out_length, uint8_t *work, size_t work_length);
 
+/* The units on hand at a time: the counts of its table added up, which are the counts inserted up to then less
+ * the counts deleted. Writes nothing. Refuses by 1, 12. */
+yk_units_answer yk_units(yk_numbers numbers, const uint8_t *log, size_t log_length, const uint64_t *index,
+    size_t index_length, const uint8_t *table, size_t table_length, const yk_entry *entries,
+    size_t entries_length, const uint8_t *areas, size_t areas_length, uint64_t time);
+
+/* The units at time b less those at time a, a before or after b. 0 says that the totals agree, not that the
+ * tables are the same. Writes nothing. Refuses by 1, 12. */
+yk_units_between_answer yk_units_between(yk_numbers numbers, const uint8_t *log, size_t log_length,
+    const uint64_t *index, size_t index_length, const uint8_t *table, size_t table_length,
+    const yk_entry *entries, size_t entries_length, const uint8_t *areas, size_t areas_length, uint64_t a,
+    uint64_t b);
+
 /* Keeps the table of a time as a count file: writes its entry and area, and moves the files of later times up
  * by one. Refuses by 1, 12, 14, 15. */
 yk_change yk_keep(yk_numbers numbers, const uint8_t *log, size_t log_length, const uint64_t *index,
@@ -255,9 +278,9 @@ static inline yk_part yk_view_part(yk_view_answer view, const uint8_t *areas, co
 
 /* The version of this header, and that of the archive as the one number that the header has as YK_VERSION_NUMBER. */
 #define YK_VERSION_MAJOR 0
-#define YK_VERSION_MINOR 2
+#define YK_VERSION_MINOR 3
 #define YK_VERSION_PATCH 0
-#define YK_VERSION "0.2.0"
+#define YK_VERSION "0.3.0"
 #define YK_VERSION_NUMBER (65536u * YK_VERSION_MAJOR + 256u * YK_VERSION_MINOR + YK_VERSION_PATCH)
 
 uint32_t yk_version(void);
@@ -462,6 +485,18 @@ static inline yk_net_change_answer yk_store_net_change(const yk_store *store, ui
     yk_store s = yk_store_lent(store);
     return yk_net_change(s.numbers, YK_LENT(s), a, b, (uint8_t *)yk_lent_pointer(out),
         out ? out_length : 0, (uint8_t *)yk_lent_pointer(work), work ? work_length : 0);
+}
+
+/* yk_units */
+static inline yk_units_answer yk_store_units(const yk_store *store, uint64_t time) {
+    yk_store s = yk_store_lent(store);
+    return yk_units(s.numbers, YK_LENT(s), time);
+}
+
+/* yk_units_between */
+static inline yk_units_between_answer yk_store_units_between(const yk_store *store, uint64_t a, uint64_t b) {
+    yk_store s = yk_store_lent(store);
+    return yk_units_between(s.numbers, YK_LENT(s), a, b);
 }
 
 /* yk_audit */

@@ -1,5 +1,5 @@
-/* A week with a handheld counter: shifts of counting, a past day's table, Friday's deletions, what a
- * wholesaler gets, and the log written to a file and opened again. The argument is the file to write.
+/* A week with a handheld counter: shifts of counting, a past day's table and its units, Friday's deletions, what
+ * a wholesaler gets, and the log written to a file and opened again. The argument is the file to write.
  *
  *     gcc -std=c99 -Iinclude examples/c/shift.c target/staticlib/libembed.a -o shift && ./shift week.log */
 #include <stdio.h>
@@ -49,7 +49,7 @@ static void friday(yk_store *store) {
     must(yk_store_keep(store, at(THURSDAY, 16, 45)));
     must(yk_store_delete(store, at(FRIDAY, 8, 0), 4712));
     must(yk_store_delete(store, at(FRIDAY, 8, 1), 4650));
-    must(yk_store_insert(store, at(FRIDAY, 8, 30), 4900, 16));
+    must(yk_store_insert(store, at(FRIDAY, 8, 30), 4900, 10));
 }
 
 static void print_table(const yk_store *store, const char *name, uint64_t time, uint8_t *out, yk_lengths need) {
@@ -60,13 +60,18 @@ static void print_table(const yk_store *store, const char *name, uint64_t time, 
         yk_row row = yk_row_at(out, i);
         printf("  %u: %u\n", (unsigned)row.article, (unsigned)row.count);
     }
+    yk_units_answer sum = yk_store_units(store, time);
+    must((enum yk_question)sum.question);
+    printf("  %llu units\n", (unsigned long long)sum.units);
 }
 
 static void print_net_change(const yk_store *store, const char *name, uint64_t from, uint64_t to, uint8_t *out,
     uint8_t *work, yk_lengths need) {
     yk_net_change_answer answer = yk_store_net_change(store, from, to, out, need.out, work, need.work);
     must((enum yk_question)answer.question);
-    printf("%s: %u entries\n", name, (unsigned)answer.entries);
+    yk_units_between_answer more = yk_store_units_between(store, from, to);
+    must((enum yk_question)more.question);
+    printf("%s: %u entries, %+lld units\n", name, (unsigned)answer.entries, (long long)more.units);
     for (uint32_t i = 0; i < answer.entries; i++) {
         yk_step step = yk_step_at(out, i);
         printf("  %s %u: %u\n", step.kind == YK_DELETION ? "delete" : "insert", (unsigned)step.article,

@@ -1,5 +1,5 @@
-//! A week with a handheld counter: shifts of counting, a past day's table, Friday's deletions, what a
-//! wholesaler gets, and the log written to a file and opened again. The argument is the file to write.
+//! A week with a handheld counter: shifts of counting, a past day's table and its units, Friday's deletions, what
+//! a wholesaler gets, and the log written to a file and opened again. The argument is the file to write.
 //!
 //!     YK_LIB_DIR=$PWD/target/staticlib cargo run --manifest-path rust/Cargo.toml --example shift week.log
 
@@ -69,7 +69,7 @@ fn friday(store: &mut Store) -> Result<(), Refusal> {
     store.keep(at(THURSDAY, 16, 45))?;
     store.delete(at(FRIDAY, 8, 0), 4712)?;
     store.delete(at(FRIDAY, 8, 1), 4650)?;
-    store.insert(at(FRIDAY, 8, 30), 4900, 16)
+    store.insert(at(FRIDAY, 8, 30), 4900, 10)
 }
 
 fn print_table(store: &Store, name: &str, time: u64, out: &mut [u8]) -> Result<(), Refusal> {
@@ -78,6 +78,7 @@ fn print_table(store: &Store, name: &str, time: u64, out: &mut [u8]) -> Result<(
     for row in rows {
         println!("  {}: {}", row.article, row.count);
     }
+    println!("  {} units", store.units(time)?);
     Ok(())
 }
 
@@ -90,7 +91,7 @@ fn print_net_change(
     work: &mut [u8],
 ) -> Result<(), Refusal> {
     let steps = store.net_change(from, to, out, work)?.steps();
-    println!("{name}: {} entries", steps.len());
+    println!("{name}: {} entries, {:+} units", steps.len(), store.units_between(from, to)?);
     for step in steps {
         match step {
             Step::Delete(row) => println!("  delete {}: {}", row.article, row.count),

@@ -1,8 +1,8 @@
 //! A stock history store whose calls are proved, over memory that you lend.
 //!
 //! A [`Store`] borrows five slices ([`Lent`]): it allocates nothing, and holds nothing between calls but its
-//! [`Numbers`]. Counts are appended at rising times; the table of any past time, and the net change between two
-//! times, can be asked for.
+//! [`Numbers`]. Counts are appended at rising times; the table of any past time, its units added up, and the net
+//! change between two times can be asked for.
 //!
 //! ```
 //! use yokefennel::{Entry, Lent, Row, Settings, Step, Store};
@@ -25,10 +25,12 @@
 //! let (mut out, mut work) = (vec![0; need.out], vec![0; need.work]);
 //! let rows: Vec<Row> = store.table(20, &mut out)?.rows().collect();
 //! assert_eq!(rows, [Row { article: 7, count: 50 }]);
+//! assert_eq!(store.units(20)?, 50); // the counts of that table added up
 //!
 //! let steps: Vec<Step> = store.net_change(20, 30, &mut out, &mut work)?.steps().collect();
 //! let (before, after) = (Row { article: 7, count: 50 }, Row { article: 7, count: 44 });
 //! assert_eq!(steps, [Step::Delete(before), Step::Insert(after)]);
+//! assert_eq!(store.units_between(20, 30)?, -6); // negative where stock fell
 //! # Ok::<(), yokefennel::Refusal>(())
 //! ```
 //!

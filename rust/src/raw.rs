@@ -75,6 +75,26 @@ pub struct NetChangeAnswer {
     pub entries: u32,
 }
 
+/// What [`yk_units`] answers.
+#[repr(C)]
+#[derive(Clone, Copy, Debug)]
+pub struct UnitsAnswer {
+    /// 01's number of the question answered no, or 0
+    pub question: u8,
+    /// units on hand, below 2^42; 0 where refused
+    pub units: u64,
+}
+
+/// What [`yk_units_between`] answers.
+#[repr(C)]
+#[derive(Clone, Copy, Debug)]
+pub struct UnitsBetweenAnswer {
+    /// 01's number of the question answered no, or 0
+    pub question: u8,
+    /// units at b less units at a, negative where stock fell; 0 where refused
+    pub units: i64,
+}
+
 /// What [`yk_lengths_for`] answers.
 #[repr(C)]
 #[derive(Clone, Copy, Debug)]
@@ -203,6 +223,28 @@ extern "C" {
         out: *mut u8, out_length: usize,
         work: *mut u8, work_length: usize,
     ) -> NetChangeAnswer;
+
+    /// The units on hand at a time.
+    pub fn yk_units(
+        numbers: Numbers,
+        log: *const u8, log_length: usize,
+        index: *const u64, index_length: usize,
+        table: *const u8, table_length: usize,
+        entries: *const Entry, entries_length: usize,
+        areas: *const u8, areas_length: usize,
+        time: u64,
+    ) -> UnitsAnswer;
+
+    /// The units at time b less those at time a.
+    pub fn yk_units_between(
+        numbers: Numbers,
+        log: *const u8, log_length: usize,
+        index: *const u64, index_length: usize,
+        table: *const u8, table_length: usize,
+        entries: *const Entry, entries_length: usize,
+        areas: *const u8, areas_length: usize,
+        a: u64, b: u64,
+    ) -> UnitsBetweenAnswer;
 
     /// Keeps the table of a time as a count file.
     pub fn yk_keep(

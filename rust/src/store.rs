@@ -389,6 +389,64 @@ impl<'a> Store<'a> {
         Ok(NetChange { bytes: out, entries: answer.entries })
     }
 
+    /// The units on hand at a time: the counts of its table added up, which are the counts inserted up to then
+    /// less the counts deleted. They are below 2^42.
+    ///
+    /// Refuses by 1, 12.
+    ///
+    /// ```
+    /// # use yokefennel::{Lent, Settings, Store};
+    /// # let (log, index, table) = (&mut [0; 96], &mut [0; 7], &mut [0; 32]);
+    /// # let lent = Lent { log, index, table, entries: &mut [], areas: &mut [] };
+    /// # let mut store = Store::fresh(Settings { order: 8, page: 2, limit: 4 }, lent)?;
+    /// store.insert(10, 7, 50)?; // at time 10, article 7 with count 50
+    /// store.insert(20, 3, 12)?;
+    /// assert_eq!([9, 10, 20].map(|time| store.units(time)), [Ok(0), Ok(50), Ok(62)]);
+    /// # Ok::<(), yokefennel::Refusal>(())
+    /// ```
+    pub fn units(&self, time: u64) -> Result<u64, Refusal> {
+        let Lent { log, index, table, entries, areas } = &self.lent;
+        let answer = unsafe {
+            raw::yk_units(
+                self.numbers,
+                log.as_ptr(), log.len(), index.as_ptr(), index.len(), table.as_ptr(), table.len(),
+                entries.as_ptr(), entries.len(), areas.as_ptr(), areas.len(),
+                time,
+            )
+        };
+        accepted(answer.question)?;
+        Ok(answer.units)
+    }
+
+    /// The units at time b less those at time a, a before or after b: negative where stock fell. 0 says that the
+    /// totals agree, not that the tables are the same.
+    ///
+    /// Refuses by 1, 12.
+    ///
+    /// ```
+    /// # use yokefennel::{Lent, Settings, Store};
+    /// # let (log, index, table) = (&mut [0; 96], &mut [0; 7], &mut [0; 32]);
+    /// # let lent = Lent { log, index, table, entries: &mut [], areas: &mut [] };
+    /// # let mut store = Store::fresh(Settings { order: 8, page: 2, limit: 4 }, lent)?;
+    /// store.insert(10, 7, 50)?;
+    /// store.update(30, 7, 44)?;
+    /// assert_eq!((store.units_between(10, 30)?, store.units_between(30, 10)?), (-6, 6));
+    /// # Ok::<(), yokefennel::Refusal>(())
+    /// ```
+    pub fn units_between(&self, a: u64, b: u64) -> Result<i64, Refusal> {
+        let Lent { log, index, table, entries, areas } = &self.lent;
+        let answer = unsafe {
+            raw::yk_units_between(
+                self.numbers,
+                log.as_ptr(), log.len(), index.as_ptr(), index.len(), table.as_ptr(), table.len(),
+                entries.as_ptr(), entries.len(), areas.as_ptr(), areas.len(),
+                a, b,
+            )
+        };
+        accepted(answer.question)?;
+        Ok(answer.units)
+    }
+
     /// Whether numbers and lent memory are such as accepted calls leave. Then all calls answer as promised.
     pub fn audit(&self) -> bool {
         let Lent { log, index, table, entries, areas } = &self.lent;

@@ -4,6 +4,7 @@ use yokefennel::{Entry, Lent, Numbers, Place, Refusal, Row, Settings, Side, Step
 
 const SETTINGS: Settings = Settings { order: 3, page: 2, limit: 4 };
 
+#[derive(Clone, Debug, PartialEq)]
 struct Memory {
     log: Vec<u8>,
     index: Vec<u64>,
@@ -89,6 +90,78 @@ fn tables_and_net_changes() {
     assert_eq!(change.steps().collect::<Vec<_>>(), steps);
     assert_eq!(change.bytes().len(), 36);
     assert_eq!(store.net_change(30, 35, &mut out, &mut work).unwrap().steps().len(), 0);
+}
+
+/// 01's totals and differences; a total is the sum of the rows shown, a difference that of two totals.
+fn compare_units(store: &Store) {
+    let units = [0, 9, 10, 20, 30, 40, 50, 60].map(|time| store.units(time).unwrap());
+    assert_eq!(units, [0, 0, 50, 62, 56, 44, 49, 50]);
+    assert_eq!((store.units_between(20, 45), store.units_between(45, 20)), (Ok(-18), Ok(18)));
+    assert_eq!((store.units_between(45, 50), store.units_between(30, 35)), (Ok(5), Ok(0)));
+    // the totals agree, the tables differ
+    assert_eq!((store.units_between(10, 60), store.units_between(60, 10)), (Ok(0), Ok(0)));
+    assert_ne!(table(store, 10).0, table(store, 60).0);
+    for a in 0..=60 {
+        let units = store.units(a).unwrap();
+        assert_eq!(table(store, a).0.iter().map(|row| u64::from(row.count)).sum::<u64>(), units);
+        for b in 0..=60 {
+            let difference = store.units(b).unwrap() as i64 - units as i64;
+            assert_eq!(store.units_between(a, b), Ok(difference), "{a} to {b}");
+        }
+    }
+}
+
+#[test]
+fn units_on_hand() {
+    let mut memory = Memory::of(9, 2);
+    let mut store = build(&mut memory);
+    // worked out from time 0, from files before and after the time, from the current table
+    for files in [&[][..], &[20], &[40], &[10, 40], &[30, 60]] {
+        files.iter().for_each(|&time| store.keep(time).unwrap());
+        compare_units(&store);
+        files.iter().for_each(|&time| store.drop_file(time).unwrap());
+    }
+}
+
+/// Three rows of the largest count come, and go.
+#[test]
+fn units_past_32_bits() {
+    let mut memory = Memory::of(6, 0);
+    let mut store = Store::fresh(SETTINGS, memory.lend()).unwrap();
+    assert_eq!((store.units(0), store.units_between(0, 0)), (Ok(0), Ok(0)));
+    for (time, article) in [(1, 7), (2, 3), (3, 9)] {
+        store.insert(time, article, u32::MAX).unwrap();
+    }
+    assert_eq!(store.units(3), Ok(12_884_901_885));
+    for (time, article) in [(4, 7), (5, 3), (6, 9)] {
+        store.delete(time, article).unwrap();
+    }
+    let units = [1, 2, 3, 4, 5, 6].map(|time| store.units(time).unwrap());
+    let (one, two, three) = (4_294_967_295, 8_589_934_590, 12_884_901_885);
+    assert_eq!(units, [one, two, three, two, one, 0]);
+    assert_eq!(store.units_between(3, 6), Ok(-12_884_901_885));
+    assert_eq!(store.units_between(6, 3), Ok(12_884_901_885));
+    assert_eq!((store.units_between(3, 4), store.units_between(2, 4)), (Ok(-4_294_967_295), Ok(0)));
+}
+
+#[test]
+fn units_write_nothing() {
+    let mut memory = Memory::of(9, 2);
+    let mut store = build(&mut memory);
+    store.keep(20).unwrap();
+    let (numbers, _) = store.give_back();
+    let before = memory.clone();
+    let store = Store::resume(numbers, memory.lend());
+    compare_units(&store);
+    assert_eq!(store.units(61), Err(Refusal::TimeAfterLast));
+    assert_eq!(store.units_between(61, 20), Err(Refusal::TimeAfterLast));
+    assert_eq!(store.units_between(20, 61), Err(Refusal::TimeAfterLast));
+    // question 1 goes before 12
+    let store = Store::resume(Numbers { records: 7, ..numbers }, memory.lend());
+    assert_eq!((store.units(20), store.units(61)), (Err(Refusal::Header), Err(Refusal::Header)));
+    assert_eq!(store.units_between(20, 45), Err(Refusal::Header));
+    assert_eq!(store.units_between(61, 61), Err(Refusal::Header));
+    assert_eq!(memory, before);
 }
 
 #[test]
@@ -238,11 +311,13 @@ fn no_count_files_and_nothing_lent() {
     assert!(store.audit() && store.files().is_empty());
     assert_eq!(store.keep(20), Err(Refusal::CatalogueFull));
     assert_eq!(table(&store, 20).0, [row(3, 12), row(7, 50)]);
+    compare_units(&store);
     let nothing = || Lent { log: &mut [], index: &mut [], table: &mut [], entries: &mut [], areas: &mut [] };
     assert_eq!(Store::fresh(SETTINGS, nothing()).unwrap_err(), Refusal::Memory);
     assert_eq!(Store::open(nothing()).unwrap_err(), Refusal::Header);
     let none = Store::resume(Numbers::default(), nothing());
     assert!(!none.audit() && none.log().is_empty());
+    assert_eq!((none.units(0), none.units_between(0, 0)), (Err(Refusal::Header), Err(Refusal::Header)));
 }
 
 /// Every byte of every region wrong in turn: the audit sees it, and no call leaves the memory or panics.
@@ -269,6 +344,7 @@ fn damaged_memory() {
                 let _ = store.view(time).map(|view| view.rows().count());
                 let _ = store.table(time, &mut out).map(|table| table.rows().count());
                 let _ = store.net_change(time, 45, &mut out, &mut work).map(|change| change.steps().count());
+                let _ = (store.units(time), store.units_between(time, 45));
             }
             damage(&mut memory);
         }

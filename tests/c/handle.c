@@ -58,6 +58,31 @@ static int step_is(yk_step step, int kind, uint32_t article, uint32_t count) {
     return step.kind == kind && step.article == article && step.count == count;
 }
 
+static int units_are(const yk_store *store, uint64_t time, uint64_t units) {
+    yk_units_answer answer = yk_store_units(store, time);
+    return answer.question == YK_ACCEPTED && answer.units == units;
+}
+
+static int difference_is(const yk_store *store, uint64_t a, uint64_t b, int64_t units) {
+    yk_units_between_answer answer = yk_store_units_between(store, a, b);
+    return answer.question == YK_ACCEPTED && answer.units == units;
+}
+
+static void ask_units(const yk_store *store) {
+    require(units_are(store, 10, 50) && units_are(store, 20, 62) && units_are(store, 30, 56), "units of 10, 20, 30");
+    require(units_are(store, 40, 44) && units_are(store, 50, 49) && units_are(store, 60, 50), "units of 40, 50, 60");
+    require(units_are(store, 0, 0) && units_are(store, 9, 0), "no units before the first");
+    require(difference_is(store, 20, 45, -18) && difference_is(store, 45, 20, 18), "20 to 45 and back");
+    require(difference_is(store, 45, 50, 5), "45 to 50");
+    require(difference_is(store, 10, 60, 0), "10 to 60: the totals agree, the tables differ");
+    yk_units_answer after = yk_store_units(store, 61);
+    require(after.question == YK_TIME_AFTER_LAST && after.units == 0, "units of 61");
+    yk_units_between_answer from = yk_store_units_between(store, 61, 20);
+    require(from.question == YK_TIME_AFTER_LAST && from.units == 0, "units from 61");
+    yk_units_between_answer to = yk_store_units_between(store, 20, 61);
+    require(to.question == YK_TIME_AFTER_LAST && to.units == 0, "units to 61");
+}
+
 static void ask(const yk_store *store) {
     yk_table_answer day = yk_store_table(store, 20, out, sizeof out);
     require(day.question == YK_ACCEPTED && day.rows == 2, "the table of 20");
@@ -69,6 +94,7 @@ static void ask(const yk_store *store) {
     require(step_is(yk_step_at(out, 0), YK_DELETION, 3, 12) && step_is(yk_step_at(out, 1), YK_DELETION, 7, 50)
             && step_is(yk_step_at(out, 2), YK_INSERTION, 7, 44),
         "its entries");
+    ask_units(store);
     require(yk_store_table(store, 20, NULL, 32).question == YK_OUTPUT_SHORT, "no output");
     require(yk_store_net_change(store, 20, 45, NULL, 0, NULL, 0).question == YK_OUTPUT_SHORT, "no outputs");
 }
@@ -80,6 +106,7 @@ static void count_files(yk_store *store) {
     require(view.place == YK_AREA && part.bytes == areas && part.length == 16, "view");
     require(view.later == 0 && view.requests_between == 2, "an update between");
     require(row_is(yk_row_at(part.bytes, 1), 7, 50), "a view's row");
+    ask_units(store);
     require(yk_store_keep(store, 20) == YK_NOT_TO_KEEP && store->numbers.files == 1, "numbers of a refusal");
     require(yk_store_drop(store, 20) == YK_ACCEPTED && store->numbers.files == 0, "drop");
 }
@@ -113,6 +140,24 @@ static void not_lent(void) {
     require(yk_store_fresh(&store, 3, 2, LIMIT) == YK_MEMORY, "fresh with nothing lent");
     require(yk_store_open(&store) == YK_HEADER, "open with nothing lent");
     require(yk_store_insert(&store, 1, 1, 1) == YK_HEADER && !yk_store_audit(&store), "no store");
+    require(yk_store_units(&store, 0).question == YK_HEADER, "no store, no units");
+    require(yk_store_units_between(&store, 0, 0).question == YK_HEADER, "no store, no difference");
+}
+
+/* Three rows of the largest count come, and go. */
+static void past_32_bits(void) {
+    yk_store store = over(1);
+    require(yk_store_fresh(&store, 3, 2, LIMIT) == YK_ACCEPTED, "fresh again");
+    for (uint32_t k = 1; k <= 3; k++) {
+        require(yk_store_insert(&store, k, k, UINT32_MAX) == YK_ACCEPTED, "insert the largest count");
+    }
+    require(yk_store_keep(&store, 3) == YK_ACCEPTED, "keep all three");
+    for (uint32_t k = 1; k <= 3; k++) {
+        require(yk_store_delete(&store, 3 + k, k) == YK_ACCEPTED, "delete it");
+    }
+    require(units_are(&store, 3, 12884901885) && units_are(&store, 6, 0), "units past 32 bits");
+    require(difference_is(&store, 3, 6, -12884901885) && difference_is(&store, 6, 3, 12884901885),
+        "differences past 32 bits");
 }
 
 static void words(void) {
@@ -155,6 +200,7 @@ int main(void) {
     count_files(&store);
     open_again();
     not_lent();
+    past_32_bits();
     lengths();
     words();
     puts("handle: ok");

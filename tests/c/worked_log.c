@@ -182,7 +182,41 @@ static void compare_net_changes(void) {
     require(answer.question == YK_ACCEPTED && answer.entries == 0 && zero(out, OUT), "net change 30 to 35");
     require(memcmp(work, TABLE_30, TABLE) == 0 && memcmp(work + TABLE, TABLE_30, TABLE) == 0,
         "workspace of 30 and 35");
+    answer = yk_net_change(numbers, STORE, 10, 60, out, OUT, work, WORK);
+    require(answer.question == YK_ACCEPTED && answer.entries == 3, "net change 10 to 60, whose totals agree");
     require(out[OUT] == 0xA5 && work[WORK] == 0xA5, "nothing is written past output and workspace");
+}
+
+/* ---- units on hand */
+
+/* Both fields of the answer, and nothing is written. */
+static bool units_are(uint64_t time, uint64_t units) {
+    static uint8_t before[sizeof lent];
+    memcpy(before, &lent, sizeof lent);
+    yk_units_answer answer = yk_units(numbers, STORE, time);
+    return answer.question == YK_ACCEPTED && answer.units == units && memcmp(before, &lent, sizeof lent) == 0;
+}
+
+static bool difference_is(uint64_t a, uint64_t b, int64_t units) {
+    static uint8_t before[sizeof lent];
+    memcpy(before, &lent, sizeof lent);
+    yk_units_between_answer answer = yk_units_between(numbers, STORE, a, b);
+    return answer.question == YK_ACCEPTED && answer.units == units && memcmp(before, &lent, sizeof lent) == 0;
+}
+
+/* The same whatever files are kept. */
+static void compare_units(void) {
+    static const uint64_t asked[10] = {0, 9, 10, 19, 20, 30, 40, 45, 50, 60};
+    static const int64_t units[10] = {0, 0, 50, 50, 62, 56, 44, 44, 49, 50};
+    for (int i = 0; i < 10; i++) {
+        require(units_are(asked[i], (uint64_t)units[i]), "units of a time");
+        for (int k = 0; k < 10; k++) {
+            require(difference_is(asked[i], asked[k], units[k] - units[i]), "units between two times");
+        }
+    }
+    require(difference_is(20, 45, -18) && difference_is(45, 20, 18), "20 to 45 and back");
+    require(difference_is(45, 50, 5), "45 to 50");
+    require(difference_is(10, 60, 0) && difference_is(60, 10, 0), "10 to 60: the totals agree, the tables differ");
 }
 
 /* ---- count files and views */
@@ -215,6 +249,7 @@ static void keep_one(void) {
     require(memcmp(lent.areas, TABLE_20, TABLE) == 0, "the area of 20");
     require(table_is(45, TABLE_45, 1, 0, 3), "with 20 kept, 45 is a tie of three and starts from 20");
     require(view_is(45, YK_AREA, 0, 2, 0, 3, lent.areas), "view of 45 with 20 kept");
+    compare_units();
     require(audit(), "audit with 20 kept");
     require(drop(20) == YK_ACCEPTED && numbers_are(3, 2, 4, 8, 60, 2, 0), "drop 20");
     require(entry_is(0, 0, 0) && zero(lent.areas, TABLE), "the entry and the area of 20 are zero");
@@ -222,9 +257,11 @@ static void keep_one(void) {
     require(keep(40) == YK_ACCEPTED, "keep 40");
     require(table_is(30, TABLE_30, 2, 1, 1), "with only 40 kept, 30 starts from 40");
     require(view_is(30, YK_AREA, 0, 1, 1, 1, lent.areas), "view of 30 with only 40 kept");
+    compare_units();
     require(keep(10) == YK_ACCEPTED, "keep 10");
     require(table_is(30, TABLE_30, 2, 1, 1), "with 10 and 40 kept, 30 starts from 40: three requests against one");
     require(view_is(30, YK_AREA, 1, 1, 1, 1, lent.areas + TABLE), "view of 30 with 10 and 40 kept");
+    compare_units();
     require(drop(10) == YK_ACCEPTED && drop(40) == YK_ACCEPTED, "drop 10 and 40");
 }
 
@@ -238,6 +275,7 @@ static void keep_several(void) {
             && memcmp(lent.areas + 3 * TABLE, TABLE_20, TABLE) == 0,
         "area i is the table of entry i");
     require(view_is(30, YK_AREA, 3, 2, 0, 2, lent.areas + 3 * TABLE), "view of 30 with 20 kept");
+    compare_units();
     require(audit(), "audit with four files");
 
     require(drop(6) == YK_ACCEPTED && numbers_are(3, 2, 4, 8, 60, 2, 3), "drop 6");
@@ -288,6 +326,8 @@ static void refuse_later_calls(void) {
     wrong.records--;
     REFUSED(yk_position(wrong, STORE, 0).question, YK_HEADER, "position with wrong numbers");
     REFUSED(yk_view(wrong, STORE, 0).question, YK_HEADER, "view with wrong numbers");
+    REFUSED(yk_units(wrong, STORE, 61).question, YK_HEADER, "units with wrong numbers");
+    REFUSED(yk_units_between(wrong, STORE, 61, 61).question, YK_HEADER, "units between with wrong numbers");
     REFUSED(yk_keep(wrong, STORE, 30).question, YK_HEADER, "keep with wrong numbers");
     require(yk_keep(wrong, STORE, 30).numbers.records == 7, "a refusal answers the numbers it was given");
 
@@ -305,6 +345,9 @@ static void refuse_later_calls(void) {
     REFUSED(table(61, out).question, YK_TIME_AFTER_LAST, "table of 61");
     REFUSED(yk_net_change(numbers, STORE, 20, 61, out, OUT, work, WORK).question, YK_TIME_AFTER_LAST,
         "net change to 61");
+    REFUSED(yk_units(numbers, STORE, 61).question, YK_TIME_AFTER_LAST, "units of 61");
+    REFUSED(yk_units_between(numbers, STORE, 61, 20).question, YK_TIME_AFTER_LAST, "units from 61");
+    REFUSED(yk_units_between(numbers, STORE, 20, 61).question, YK_TIME_AFTER_LAST, "units to 61");
     REFUSED(keep(61), YK_TIME_AFTER_LAST, "keep 61");
     REFUSED(yk_table(numbers, STORE, 20, out, TABLE - 1).question, YK_OUTPUT_SHORT, "a short output");
     REFUSED(yk_net_change(numbers, STORE, 20, 45, out, OUT - 1, work, WORK).question, YK_OUTPUT_SHORT,
@@ -332,6 +375,13 @@ static void refused_answers(void) {
     require(view.place == 0 && view.area == 0 && view.rows == 0 && view.later == 0 && view.requests_between == 0
             && view.start == 0 && view.length == 0 && part.bytes == lent.table && part.length == 0,
         "a refused view is empty");
+    require(yk_units(numbers, STORE, 61).units == 0 && yk_units_between(numbers, STORE, 61, 20).units == 0
+            && yk_units_between(numbers, STORE, 20, 61).units == 0,
+        "refused: no units");
+    yk_numbers wrong = numbers;
+    wrong.records--;
+    require(yk_units(wrong, STORE, 20).units == 0 && yk_units_between(wrong, STORE, 20, 45).units == 0,
+        "wrong numbers: no units");
 }
 
 /* A ninth record: numbers that all differ. */
@@ -380,6 +430,25 @@ static void start_anew(void) {
     require(insert(5, 5, 5) == YK_ROWS_FULL && numbers_are(3, 2, 4, 4, 4, 4, 0), "a fifth live row");
 }
 
+/* Three rows of the largest count come, and go. */
+static void pass_32_bits(void) {
+    static const uint64_t units[7] = {0, 4294967295, 8589934590, 12884901885, 8589934590, 4294967295, 0};
+    require(fresh(3, 2, LIMIT) == YK_ACCEPTED && units_are(0, 0) && difference_is(0, 0, 0), "no units yet");
+    require(yk_units(numbers, STORE, 1).question == YK_TIME_AFTER_LAST, "units after time 0");
+    for (uint32_t k = 1; k <= 3; k++) {
+        require(insert(k, k, UINT32_MAX) == YK_ACCEPTED && units_are(k, units[k]), "rows of the largest count");
+    }
+    for (uint32_t k = 4; k <= 6; k++) {
+        require(delete_article(k, k - 3) == YK_ACCEPTED && units_are(k, units[k]), "and without them");
+    }
+    for (uint32_t k = 0; k <= 6; k++) {
+        require(units_are(k, units[k]), "totals past 32 bits");
+    }
+    require(difference_is(3, 6, -12884901885) && difference_is(6, 3, 12884901885), "differences past 32 bits");
+    require(difference_is(0, 3, 12884901885) && difference_is(3, 4, -4294967295), "and of one row");
+    require(difference_is(1, 5, 0) && difference_is(0, 6, 0), "totals that come back");
+}
+
 int main(int many, char **arguments) {
     require(many == 2, "usage: worked_log LOG");
     memset(&lent, 0xA5, sizeof lent);
@@ -389,6 +458,7 @@ int main(int many, char **arguments) {
     compare_index();
     compare_positions();
     compare_net_changes();
+    compare_units();
     keep_none();
     keep_one();
     keep_several();
@@ -400,6 +470,7 @@ int main(int many, char **arguments) {
     delete_9();
     open_again();
     start_anew();
+    pass_32_bits();
     puts("worked log: ok");
     return 0;
 }

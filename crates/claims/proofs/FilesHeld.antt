@@ -157,6 +157,8 @@ module _ (st : State) where
     step-held (Call.table u out) = refl
     step-held (Call.view u) = refl
     step-held (Call.netChange a b out work) = refl
+    step-held (Call.units u) = refl
+    step-held (Call.difference a b) = refl
     step-held (Call.keep u) = keep-held u
     step-held (Call.drop u) = drop-held u
     step-held Call.audit = refl

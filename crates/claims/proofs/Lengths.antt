@@ -88,6 +88,8 @@ module _ (d N R : ℕ) (l : Lengths) where
     step-served (Call.table t out) f = h
     step-served (Call.view t) f = h
     step-served (Call.netChange a b out work) f = h
+    step-served (Call.units t) f = h
+    step-served (Call.difference a b) f = h
     step-served (Call.keep t) f = keep-served t
     step-served (Call.drop t) f = drop-served t
     step-served Call.audit f = h

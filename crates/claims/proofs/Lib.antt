@@ -20,4 +20,5 @@ pub mod SameLogs
 pub mod FilesHeld
 pub mod ThirdDemands
 pub mod Positions
+pub mod Units
 pub mod Made

@@ -1,15 +1,18 @@
 -- Calls that are made (specs/Chains of model): each that keeps the promise of its contract answers and leaves what its
 -- definition says, so a list of them leaves what `run` says, and demands 2 and 3 hold of it. Assumes nothing.
+use Prim.Native.Nat.{ℕ}
 use mathlib.Core.Path.{_≡_, refl, sym, ap, _∙_, subst}
 use mathlib.Core.List.{List}
+use lib.IntN.{ℤ}
 use Rattle.model.specs.declared.Position.{Position}
 use Rattle.model.specs.Answers.{Outcome, TableSaid}
 use Rattle.model.specs.Memory.{State}
 use Rattle.model.specs.Starts.{After, after}
 use Rattle.model.specs.Queries.{Written, Netted, tableOf}
 use Rattle.model.specs.Audit.{Audited}
+use Rattle.model.specs.Units.{UnitsTell, DifferenceTells}
 use Rattle.model.specs.Facts.{InOrder}
-use Rattle.model.specs.Calls.{Start, StartFits, begun, Call, AllFit, Said, changed, positioned, written, viewed, netted, audited, answerOf, step, run, Accepted}
+use Rattle.model.specs.Calls.{Start, StartFits, begun, Call, AllFit, Said, changed, positioned, written, viewed, netted, totalled, differed, audited, answerOf, step, run, Accepted}
 use Rattle.model.specs.Chains.{Carried, Ran, RanFrom}
 use Rattle.model.specs.Demands.{left, PositionTells, TableIsTimeslice, NetChangeIs, OutsetIsNearest, AnswersOf, CodeKeeps, CodeSameTables}
 use Rattle.claims.proofs.Opened.{start-audited}
@@ -18,6 +21,7 @@ use Rattle.claims.proofs.SecondDemands.{demand-two}
 use Rattle.claims.proofs.SameLogs.{one-table}
 use Rattle.claims.proofs.ThirdDemands.{demand-three}
 use Rattle.claims.proofs.Positions.{position-tells}
+use Rattle.claims.proofs.Units.{units-tell, difference-tells}
 
 -- ---- one call
 
@@ -34,6 +38,8 @@ carried-is ok (Carried.position t p) = (ap positioned (p .audited ok), refl)
 carried-is ok (Carried.table t out p) = (ap written (p .audited ok), refl)
 carried-is ok (Carried.view t p) = (ap viewed (p .audited ok), refl)
 carried-is ok (Carried.netChange a b out work p) = (ap netted (p .audited ok), refl)
+carried-is ok (Carried.units t p) = (ap totalled (p .audited ok), refl)
+carried-is ok (Carried.difference a b p) = (ap differed (p .audited ok), refl)
 carried-is ok (Carried.keep t p) = made (p .audited ok)
 carried-is ok (Carried.drop t p) = made (p .audited ok)
 carried-is ok (Carried.audit e) = (ap audited e, refl)
@@ -66,6 +72,12 @@ table-of e = cc
 net-of : {x y : Netted} → netted x ≡ netted y → y ≡ x
 net-of e = cc
 
+total-of : {x y : Outcome ℕ} → totalled x ≡ totalled y → y ≡ x
+total-of e = cc
+
+difference-of : {x y : Outcome ℤ} → differed x ≡ differed y → y ≡ x
+difference-of e = cc
+
 pub answers-of : (st : State) → InOrder st → AnswersOf st
 unfolding answerOf
 answers-of st o =
@@ -79,6 +91,8 @@ answers-of st o =
           (subst (TableIsTimeslice st t) is (two .tables t out h l), subst (OutsetIsNearest st t) is (three .outsets t out h l));
       net-changes = λ a b out work net st' h g l i k.
           subst (NetChangeIs st a b) (net-of (carried-is (o .audited) k .0)) (three .net-changes a b out work h g l i);
+      units = λ t x st' h k. subst (UnitsTell st t) (total-of (carried-is (o .audited) k .0)) (units-tell st o t h);
+      differences = λ a b x st' h g k. subst (DifferenceTells st a b) (difference-of (carried-is (o .audited) k .0)) (difference-tells st o a b h g);
     }
 
 -- ---- the theorems

@@ -8,25 +8,27 @@ ghost use Rattle.model.specs.Changes.{insertOf, deleteOf, updateOf};
 ghost use Rattle.model.specs.Files.{keepOf, dropOf};
 ghost use Rattle.model.specs.Audit.{auditOf};
 ghost use Rattle.numbered.specs.Lent.{memoryOf, memoryLent};
-ghost use Rattle.numbered.specs.Crossed.{StartCrossed, AppendCrossed, PositionCrossed, TableCrossed, ViewCrossed, NetChangeCrossed, FilesCrossed, LengthsCrossed};
+ghost use Rattle.numbered.specs.Crossed.{StartCrossed, AppendCrossed, PositionCrossed, TableCrossed, ViewCrossed, NetChangeCrossed, UnitsCrossed, DifferenceCrossed, FilesCrossed, LengthsCrossed};
 ghost use Rattle.numbered.specs.Answers.{yesOut};
 ghost use Rattle.embed.specs.Regions.{asLent, asLeft};
 use model::Entry;
 use model::Numbers;
 use numbered::answer::YkChange;
+use numbered::answer::YkDifference;
 use numbered::answer::YkNetChange;
 use numbered::answer::YkPosition;
 use numbered::answer::YkTable;
+use numbered::answer::YkUnits;
 use numbered::needed::YkLengths;
 use numbered::outset::YkView;
 
-// 0.2.0, as the header and the Rust crate have it: 65,536 × major + 256 × minor + patch.
-const VERSION: u32 = 512;
+// 0.3.0, as the header and the Rust crate have it: 65,536 × major + 256 × minor + patch.
+const VERSION: u32 = 768;
 
 // The version of the archive.
 #[no_mangle]
 pub extern "C" fn yk_version() -> u32
-    ensures { λ r. ⌜ r ≡ 0 * 65536 + 2 * 256 + 0 ⌝ }
+    ensures { λ r. ⌜ r ≡ 0 * 65536 + 3 * 256 + 0 ⌝ }
 {
     VERSION
 }
@@ -248,6 +250,37 @@ pub extern "C" fn yk_net_change<'a>(
         out,
         work,
     )
+}
+
+#[no_mangle]
+pub extern "C" fn yk_units<'a>(
+    s: Numbers,
+    log: &[u8],
+    index: &[u64],
+    current: &'a [u8],
+    entries: &[Entry],
+    areas: &'a [u8],
+    t: u64,
+) -> YkUnits
+    ensures { λ r. ⌜ UnitsCrossed r (asLent s log index current entries areas) t ⌝ }
+{
+    numbered::units(s, log, index, current, entries::load(entries), areas, t)
+}
+
+#[no_mangle]
+pub extern "C" fn yk_units_between<'a>(
+    s: Numbers,
+    log: &[u8],
+    index: &[u64],
+    current: &'a [u8],
+    entries: &[Entry],
+    areas: &'a [u8],
+    a: u64,
+    b: u64,
+) -> YkDifference
+    ensures { λ r. ⌜ DifferenceCrossed r (asLent s log index current entries areas) a b ⌝ }
+{
+    numbered::units_between(s, log, index, current, entries::load(entries), areas, a, b)
 }
 
 #[no_mangle]

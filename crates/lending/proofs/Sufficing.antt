@@ -6,6 +6,7 @@ use mathlib.Core.List.{List, [], _∷_}
 use mathlib.Core.Bool.{Bool, true, false, cond, _&&_, false≢true}
 use native.Mathlib.Omega.{arith}
 use lib.ListN.{length}
+use lib.IntN.{ℤ}
 use lib.Dec.{leb}
 use borrow.Author.Tests.{le-leb, lt-ltb}
 use Rattle.model.specs.declared.Position.{Position}
@@ -18,6 +19,7 @@ use Rattle.model.specs.Changes.{unchanged, roomFor, insertQuestions, presentQue
 use Rattle.model.specs.Queries.{Written, Viewed, Netted, timeQuestions, tableQuestions, netQuestions, positionOf, tableOf, viewOf, netOf}
 use Rattle.model.specs.Files.{keepQuestions, keepOf, dropQuestions, dropOf}
 use Rattle.model.specs.Promises.{refusedBy}
+use Rattle.model.specs.Units.{unitsOf, differenceQuestions, differenceOf}
 use Rattle.model.specs.Calls.{Call, answerOf, Accepted}
 use Rattle.model.proofs.Compare.{and-both}
 use Rattle.model.proofs.AuditLaws.{within-capacity}
@@ -92,7 +94,7 @@ module _ (d N R n f : ℕ) (l : Lengths) (a : Answered d N R n f l) where
     long k bytes h = rw (s .limit-is) (le-leb (k * R) bytes h)
 
     call : (c : Call) → Within n f (lengthsFor d N R n f) st c → saidLacking (answerOf st c) ≡ false
-    unfolding Within saidLacking answerOf lacking refusedBy sure Supplied insertOf deleteOf updateOf positionOf tableOf viewOf netOf keepOf dropOf
+    unfolding Within saidLacking answerOf lacking refusedBy sure Supplied insertOf deleteOf updateOf positionOf tableOf viewOf netOf unitsOf differenceOf keepOf dropOf
     call (Call.insert t x c) h =
         unless changeLacks (firstNo (insertQuestions st t x)) _ (unchanged st) refl (supplied Unit (insertQuestions st t x) (room 1 h))
     call (Call.delete t x) h =
@@ -110,6 +112,9 @@ module _ (d N R n f : ℕ) (l : Lengths) (a : Answered d N R n f l) where
         unless (λ (r : Netted). lacking (r .outcome)) (firstNo (netQuestions st x y out work)) _ _ refl
         (supplied ℕ (netQuestions st x y out work)
         (and-both (long 24 (length out) (omega (arith, h .0))) (long 16 (length work) (omega (arith, h .1))), tt))
+    call (Call.units t) h = unless (λ (r : Outcome ℕ). lacking r) (firstNo (timeQuestions st t)) _ refuses refl (supplied ℕ (timeQuestions st t) tt)
+    call (Call.difference x y) h =
+        unless (λ (r : Outcome ℤ). lacking r) (firstNo (differenceQuestions st x y)) _ refuses refl (supplied ℤ (differenceQuestions st x y) tt)
     call (Call.keep t) h =
         unless changeLacks (firstNo (keepQuestions st t)) _ (unchanged st) refl (supplied Unit (keepQuestions st t) (lt-ltb _ _ (free h), tt))
     call (Call.drop t) h = unless changeLacks (firstNo (dropQuestions st t)) _ (unchanged st) refl (supplied Unit (dropQuestions st t) tt)

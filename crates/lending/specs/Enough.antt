@@ -15,7 +15,7 @@ use Rattle.model.specs.Changes.{roomFor}
 use Rattle.model.specs.Queries.{netOf}
 use Rattle.model.specs.Files.{filesOf, isKept, keepOf}
 use Rattle.model.specs.Promises.{refusedBy}
-use Rattle.model.specs.Calls.{Start, fresh, opening, StartFits, begun, Call, AllFit, Said, changed, positioned, written, viewed, netted, audited, answerOf, Accepted}
+use Rattle.model.specs.Calls.{Start, fresh, opening, StartFits, begun, Call, AllFit, Said, changed, positioned, written, viewed, netted, totalled, differed, audited, answerOf, Accepted}
 use Rattle.model.specs.Demands.{left}
 use Rattle.log.specs.Headers.{beginsLog}
 use Rattle.lending.specs.declared.Lengths.{Lengths}
@@ -52,6 +52,8 @@ saidLacking (positioned o) = lacking o
 saidLacking (written w) = lacking (w .outcome)
 saidLacking (viewed v) = lacking (v .outcome)
 saidLacking (netted x) = lacking (x .outcome)
+saidLacking (totalled o) = lacking o
+saidLacking (differed o) = lacking o
 saidLacking (audited b) = false
 
 -- ---- enough
@@ -65,6 +67,8 @@ Within n f l st (Call.position t) = Unit
 Within n f l st (Call.table t out) = l .output ≤ length out
 Within n f l st (Call.view t) = Unit
 Within n f l st (Call.netChange a b out work) = (l .output ≤ length out) × (l .workspace ≤ length work)
+Within n f l st (Call.units t) = Unit
+Within n f l st (Call.difference a b) = Unit
 Within n f l st (Call.keep t) = st .numbers .files + 1 ≤ f
 Within n f l st (Call.drop t) = Unit
 Within n f l st Call.audit = Unit

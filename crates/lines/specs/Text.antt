@@ -1,5 +1,5 @@
--- The text of the listing (01, "One log by hand"), as ASCII codes. `numeral`, `lineText` and `refusedText` are what contracts
--- cite; the rest serves them. Assumes nothing.
+-- The text of the listing (01, "One log by hand"; 02, wish 1), as ASCII codes. `numeral`, `lineText`, `unitsText` and
+-- `refusedText` are what contracts cite; the rest serves them. Assumes nothing.
 use Prim.Native.Nat.{ℕ, zero, suc, _+_, _/_, _%_}
 use mathlib.Core.Bool.{cond}
 use mathlib.Core.List.{List, [], _∷_, _++_}
@@ -24,6 +24,10 @@ sideText Later = 32 ∷ 76 ∷ 32 ∷ []
 -- time, page position, side and rows, and the line's end
 unfoldable pub lineText : ℕ → ℕ → Side → ℕ → List ℕ
 lineText time page side rows = numeral time ++ ((32 ∷ []) ++ (numeral page ++ (sideText side ++ (numeral rows ++ (10 ∷ [])))))
+
+-- "a last line, `units` and the total"
+unfoldable pub unitsText : ℕ → List ℕ
+unitsText k = (117 ∷ 110 ∷ 105 ∷ 116 ∷ 115 ∷ 32 ∷ []) ++ (numeral k ++ (10 ∷ []))
 
 -- `refused`, a space, the number and the line's end
 unfoldable pub refusedText : ℕ → List ℕ

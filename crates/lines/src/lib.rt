@@ -1,9 +1,9 @@
-// The text of the listing (01, "One log by hand"), gathered in a buffer. Each function puts its text behind the first `at`
+// The text of the listing (01, "One log by hand"; 02, wish 1), gathered in a buffer. Each function puts its text behind the first `at`
 // bytes of the buffer, which stay as they are, and answers how many bytes are in use then.
 ghost use mathlib.Core.Path.{_≡_};
 ghost use Prim.Native.Nat.{_+_, _≤_};
 ghost use lib.ListN.{length};
-ghost use Rattle.lines.specs.Text.{numeral, sideText, lineText, refusedText};
+ghost use Rattle.lines.specs.Text.{numeral, sideText, lineText, unitsText, refusedText};
 ghost use Rattle.lines.specs.Gathered.{Gathered};
 use model::Side;
 
@@ -52,6 +52,17 @@ pub fn put_line(buffer: &mut [u8], at: usize, time: u64, page: u32, side: Side, 
     let sided = put_side(buffer, paged, side);
     let counted = put_number(buffer, sided, rows as u64);
     gather(buffer, counted, b"\n")
+}
+
+// The last line: the units on hand.
+pub fn put_units(buffer: &mut [u8], at: usize, units: u64) -> usize
+    requires { ⌜ at + 27 ≤ length (now buffer) ⌝ }
+    ensures { λ r. ⌜ Gathered (now (buffer .entry)) at (unitsText units) (now (buffer .exit)) r ⌝ }
+    ensures short { λ r. ⌜ r ≤ at + 27 ⌝ }
+{
+    let named = gather(buffer, at, b"units ");
+    let totalled = put_number(buffer, named, units);
+    gather(buffer, totalled, b"\n")
 }
 
 // What is printed of an opening that is refused by question k.

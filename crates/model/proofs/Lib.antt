@@ -21,4 +21,6 @@ pub mod AppendLaws
 pub mod RecordLaws
 pub mod FirstWrongLaws
 pub mod AuditLaws
+pub mod UnitsLaws
+pub mod SignedLaws
 pub mod FileLaws

@@ -4,6 +4,7 @@
 use Prim.Native.Nat.{ℕ, zero, suc}
 use mathlib.Core.List.{List, [], _∷_}
 use mathlib.Core.Bool.{Bool, cond}
+use lib.IntN.{ℤ}
 use Rattle.model.specs.declared.Settings.{Settings}
 use Rattle.model.specs.declared.Refusal.{Refusal}
 use Rattle.model.specs.declared.Refusal.the-variants.{Header, Order, PageSize, RowLimit, Memory, TimeNotAbove, ArticlePresent, ArticleAbsent, RowsFull, LogFull, IndexFull, TimeAfterLast, OutputShort, NotToKeep, CatalogueFull, NotKept, WrongRecord}
@@ -22,6 +23,10 @@ use Rattle.model.specs.declared.ViewAnswer.{ViewAnswer}
 use Rattle.model.specs.declared.ViewAnswer.the-variants as view
 use Rattle.model.specs.declared.NetChangeAnswer.{NetChangeAnswer}
 use Rattle.model.specs.declared.NetChangeAnswer.the-variants as net
+use Rattle.model.specs.declared.UnitsAnswer.{UnitsAnswer}
+use Rattle.model.specs.declared.UnitsAnswer.the-variants as units
+use Rattle.model.specs.declared.DifferenceAnswer.{DifferenceAnswer}
+use Rattle.model.specs.declared.DifferenceAnswer.the-variants as difference
 
 -- "The first no stops the call and gives its number alone"; 17 comes "with a record number"
 pub data Outcome (A : Type 0) : Type 0 where
@@ -110,3 +115,12 @@ viewOutcome (view.Refused why) = refusal why
 unfoldable pub netChangeOutcome : NetChangeAnswer → Outcome ℕ
 netChangeOutcome (net.Entries k) = answers k
 netChangeOutcome (net.Refused why) = refusal why
+
+-- the units on hand at a time, and between two
+unfoldable pub unitsOutcome : UnitsAnswer → Outcome ℕ
+unitsOutcome (units.Units k) = answers k
+unitsOutcome (units.Refused why) = refusal why
+
+unfoldable pub differenceOutcome : DifferenceAnswer → Outcome ℤ
+differenceOutcome (difference.Difference k) = answers k
+differenceOutcome (difference.Refused why) = refusal why

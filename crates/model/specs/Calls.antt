@@ -4,6 +4,7 @@ use Prim.Native.Nat.{ℕ, _^_, _<_}
 use mathlib.Core.Path.{_≡_}
 use mathlib.Core.List.{List, [], _∷_}
 use mathlib.Core.Bool.{Bool}
+use lib.IntN.{ℤ}
 use Rattle.codec.specs.LittleEndian.{AreBytes}
 use Rattle.model.specs.declared.Position.{Position}
 use Rattle.model.specs.Answers.{Outcome, answers, TableSaid}
@@ -13,6 +14,7 @@ use Rattle.model.specs.Changes.{insertOf, deleteOf, updateOf}
 use Rattle.model.specs.Queries.{Written, Viewed, Netted, positionOf, tableOf, viewOf, netOf}
 use Rattle.model.specs.Files.{keepOf, dropOf}
 use Rattle.model.specs.Audit.{auditOf}
+use Rattle.model.specs.Units.{unitsOf, differenceOf}
 
 -- "A list of demand 3 starts at an accepted fresh store or opening"
 pub data Start : Type 0 where
@@ -32,6 +34,8 @@ pub data Call : Type 0 where
   table : (t : ℕ) → (out : List ℕ) → Call
   view : (t : ℕ) → Call
   netChange : (a b : ℕ) → (out work : List ℕ) → Call
+  units : (t : ℕ) → Call
+  difference : (a b : ℕ) → Call
   keep : (t : ℕ) → Call
   drop : (t : ℕ) → Call
   audit : Call
@@ -45,6 +49,8 @@ step st (position t) = st
 step st (table t out) = st
 step st (view t) = st
 step st (netChange a b out work) = st
+step st (units t) = st
+step st (difference a b) = st
 step st (keep t) = keepOf st t .state
 step st (drop t) = dropOf st t .state
 step st audit = st
@@ -56,6 +62,8 @@ pub data Said : Type 0 where
   written : Written TableSaid → Said
   viewed : Viewed → Said
   netted : Netted → Said
+  totalled : Outcome ℕ → Said
+  differed : Outcome ℤ → Said
   audited : Bool → Said
 
 unfoldable pub answerOf : State → Call → Said
@@ -66,6 +74,8 @@ answerOf st (position t) = positioned (positionOf st t)
 answerOf st (table t out) = written (tableOf st t out)
 answerOf st (view t) = viewed (viewOf st t)
 answerOf st (netChange a b out work) = netted (netOf st a b out work)
+answerOf st (units t) = totalled (unitsOf st t)
+answerOf st (difference a b) = differed (differenceOf st a b)
 answerOf st (keep t) = changed (keepOf st t .outcome)
 answerOf st (drop t) = changed (dropOf st t .outcome)
 answerOf st audit = audited (auditOf st)
@@ -89,6 +99,8 @@ CallFits (position t) = t < 2 ^ 64
 CallFits (table t out) = (t < 2 ^ 64) × AreBytes out
 CallFits (view t) = t < 2 ^ 64
 CallFits (netChange a b out work) = (a < 2 ^ 64) × ((b < 2 ^ 64) × (AreBytes out × AreBytes work))
+CallFits (units t) = t < 2 ^ 64
+CallFits (difference a b) = (a < 2 ^ 64) × (b < 2 ^ 64)
 CallFits (keep t) = t < 2 ^ 64
 CallFits (drop t) = t < 2 ^ 64
 CallFits audit = Unit

@@ -5,6 +5,7 @@ use Prim.Native.Nat.{ℕ, _+_}
 use mathlib.Core.Path.{_≡_}
 use mathlib.Core.List.{List, [], _∷_}
 use mathlib.Core.Bool.{Bool}
+use lib.IntN.{ℤ}
 use Rattle.model.specs.declared.Position.{Position}
 use Rattle.model.specs.Answers.{Outcome, answers, TableSaid, OutsetSaid}
 use Rattle.model.specs.Memory.{State}
@@ -12,8 +13,8 @@ use Rattle.model.specs.Starts.{after}
 use Rattle.model.specs.Changes.{insertOf, deleteOf, updateOf}
 use Rattle.model.specs.Files.{keepOf, dropOf}
 use Rattle.model.specs.Audit.{auditOf}
-use Rattle.model.specs.Promises.{AppendPromise, FilesPromise, PositionPromise, TablePromise, ViewPromise, NetChangePromise}
-use Rattle.model.specs.Calls.{Start, begun, Call, Said, changed, positioned, written, viewed, netted, audited}
+use Rattle.model.specs.Promises.{AppendPromise, FilesPromise, PositionPromise, TablePromise, ViewPromise, NetChangePromise, UnitsPromise, DifferencePromise}
+use Rattle.model.specs.Calls.{Start, begun, Call, Said, changed, positioned, written, viewed, netted, totalled, differed, audited}
 
 -- a call on a store answers, and leaves a store, as its contract promises
 pub data Carried : State → Call → Said → State → Type 0 where
@@ -27,6 +28,8 @@ pub data Carried : State → Call → Said → State → Type 0 where
       → Carried st (Call.view t) (viewed (record { outcome = o; rows = rows })) st
   netChange : {st : State} (a b : ℕ) (out work : List ℕ) {o : Outcome ℕ} {out' work' : List ℕ} → NetChangePromise st a b out work o out' work'
       → Carried st (Call.netChange a b out work) (netted (record { outcome = o; output = out'; workspace = work' })) st
+  units : {st : State} (t : ℕ) {o : Outcome ℕ} → UnitsPromise st t o → Carried st (Call.units t) (totalled o) st
+  difference : {st : State} (a b : ℕ) {o : Outcome ℤ} → DifferencePromise st a b o → Carried st (Call.difference a b) (differed o) st
   keep : {st st' : State} (t : ℕ) {o : Outcome Unit} → FilesPromise (st .numbers .files + 1) st o st' (keepOf st t) → Carried st (Call.keep t) (changed o) st'
   drop : {st st' : State} (t : ℕ) {o : Outcome Unit} → FilesPromise (st .numbers .files) st o st' (dropOf st t) → Carried st (Call.drop t) (changed o) st'
   audit : {st : State} {yes : Bool} → yes ≡ auditOf st → Carried st Call.audit (audited yes) st

@@ -1,6 +1,6 @@
--- The mission's demands 2 and 3, the audit's exactness and what positions tell (02, wish 5), as statements over lists of
--- calls, and the same of calls that are made by code (`Chains`). Which of them is proved, and where, is listed in
--- docs/PROMISES.md. Demand 1 is the contracts of the calls. Assumes nothing.
+-- The mission's demands 2 and 3, the audit's exactness, what positions (02, wish 5) and units (wish 1) tell, as statements
+-- over lists of calls, and the same of calls that are made by code (`Chains`). Which of them is proved, and where, is listed
+-- in docs/PROMISES.md. Demand 1 is the contracts of the calls. Assumes nothing.
 use Prim.Native.Nat.{ℕ, _+_, _*_, _≤_, _<_}
 use mathlib.Core.Path.{_≡_}
 use mathlib.Core.Logic.{_↔_}
@@ -8,6 +8,7 @@ use mathlib.Core.List.{List, [], _∷_, List·Memᴰ}
 use mathlib.Core.Bool.{Bool, true, false, not, _&&_, _||_}
 use lib.ListN.{length, take}
 use lib.Dec.{eqb}
+use lib.IntN.{ℤ}
 use Rattle.model.specs.declared.Side.{Side}
 use Rattle.model.specs.declared.Side.the-variants.{Earlier, Later}
 use Rattle.model.specs.declared.Position.{Position}
@@ -27,8 +28,9 @@ use Rattle.model.specs.Positions.{PageAndCount}
 use Rattle.model.specs.Queries.{Written, Netted, positionOf, tableOf, rowsAt, netOf}
 use Rattle.model.specs.Files.{filesOf, isKept, keepOf, dropOf}
 use Rattle.model.specs.Audit.{Audited}
+use Rattle.model.specs.Units.{unitsOf, differenceOf, UnitsTell, DifferenceTells}
 use Rattle.model.specs.Promises.{isRefused}
-use Rattle.model.specs.Calls.{Start, StartFits, begun, Call, AllFit, Said, positioned, written, netted, answerOf, step, run, Accepted, Reachable}
+use Rattle.model.specs.Calls.{Start, StartFits, begun, Call, AllFit, Said, positioned, written, netted, totalled, differed, answerOf, step, run, Accepted, Reachable}
 use Rattle.model.specs.Chains.{Carried, RanFrom}
 
 -- the state that a start and a list of calls leave
@@ -163,6 +165,8 @@ heldNext t before st (Call.position u) = before
 heldNext t before st (Call.table u out) = before
 heldNext t before st (Call.view u) = before
 heldNext t before st (Call.netChange a b out work) = before
+heldNext t before st (Call.units u) = before
+heldNext t before st (Call.difference a b) = before
 heldNext t before st (Call.keep u) = before || (eqb u t && not (isRefused (keepOf st u .outcome)))
 heldNext t before st (Call.drop u) = before && not (eqb u t && not (isRefused (dropOf st u .outcome)))
 heldNext t before st Call.audit = before
@@ -192,10 +196,19 @@ pub record PositionTells (st : State) (t : ℕ) (o : Outcome Position) : Type 0 
 abbrev pub PositionsTell : Type 0
 PositionsTell = AfterEveryList (λ st. (t : ℕ) → t ≤ st .numbers .last → PositionTells st t (positionOf st t))
 
+-- ---- units (02, wish 1)
+
+pub record UnitsHold (st : State) : Type 0 where
+  pub totals : (t : ℕ) → t ≤ st .numbers .last → UnitsTell st t (unitsOf st t)
+  pub differences : (a b : ℕ) → a ≤ st .numbers .last → b ≤ st .numbers .last → DifferenceTells st a b (differenceOf st a b)
+
+abbrev pub UnitsTold : Type 0
+UnitsTold = AfterEveryList UnitsHold
+
 -- ---- the same of calls that are made, each keeping the promise of its contract
 
 -- a call made on st answers what its definition gives and leaves what it says; so demands 2 and 3 hold of the answers, and
--- positions tell what they must
+-- positions and units tell what they must
 pub record AnswersOf (st : State) : Type 0 where
   pub each : (c : Call) (said : Said) (st' : State) → Carried st c said st' → (said ≡ answerOf st c) × (st' ≡ step st c)
   pub positions : (t : ℕ) (o : Outcome Position) (st' : State) → t ≤ st .numbers .last → Carried st (Call.position t) (positioned o) st' → PositionTells st t o
@@ -204,6 +217,9 @@ pub record AnswersOf (st : State) : Type 0 where
   pub net-changes : (a b : ℕ) (out work : List ℕ) (net : Netted) (st' : State) → a ≤ st .numbers .last → b ≤ st .numbers .last
       → 24 * st .numbers .limit ≤ length out → 16 * st .numbers .limit ≤ length work
       → Carried st (Call.netChange a b out work) (netted net) st' → NetChangeIs st a b net
+  pub units : (t : ℕ) (o : Outcome ℕ) (st' : State) → t ≤ st .numbers .last → Carried st (Call.units t) (totalled o) st' → UnitsTell st t o
+  pub differences : (a b : ℕ) (o : Outcome ℤ) (st' : State) → a ≤ st .numbers .last → b ≤ st .numbers .last
+      → Carried st (Call.difference a b) (differed o) st' → DifferenceTells st a b o
 
 -- whatever list of calls is made from an accepted fresh store or opening: the store is what `run` gives, the audit says
 -- yes to it, and demands 2 and 3 hold of it and of what the next call on it answers

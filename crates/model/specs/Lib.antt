@@ -18,6 +18,7 @@ pub mod Changes
 pub mod Queries
 pub mod Files
 pub mod Audit
+pub mod Units
 pub mod Facts
 pub mod Promises
 pub mod Calls

@@ -10,6 +10,7 @@ use mathlib.Core.List.{List, [], _∷_}
 use mathlib.Core.Bool.{Bool, true, false, cond}
 use lib.ListN.{length, drop, getD}
 use lib.Dec.{eqb}
+use lib.IntN.{ℤ}
 use Rattle.model.specs.declared.Numbers.{Numbers}
 use Rattle.model.specs.declared.Entry.{Entry}
 use Rattle.model.specs.declared.Position.{Position}
@@ -21,6 +22,7 @@ use Rattle.model.specs.Memory.{State, state, standing}
 use Rattle.model.specs.Starts.{After, after}
 use Rattle.model.specs.Queries.{Written, Viewed, Netted, positionOf, tableOf, viewOf, netOf}
 use Rattle.model.specs.Audit.{Audited}
+use Rattle.model.specs.Units.{unitsOf, differenceOf}
 
 -- the store of these numbers and lent regions
 abbrev pub storeOf : Numbers → List ℕ → List ℕ → List ℕ → List Entry → List ℕ → State
@@ -96,7 +98,7 @@ pub record FilesPromise (files : ℕ) (st : State) (o : Outcome Unit) (st' : Sta
   pub framed : FilesFrame files st st'
   pub audited : (Audited st → after o st' ≡ defined)
 
--- ---- position, table, view and net change: all of the store is lent to be read alone
+-- ---- position, table, view, net change and units: all of the store is lent to be read alone
 
 pub record PositionPromise (st : State) (t : ℕ) (o : Outcome Position) : Type 0 where
   pub asked : Asked st o
@@ -118,3 +120,11 @@ pub record NetChangePromise (st : State) (a b : ℕ) (out work : List ℕ) (o : 
   pub output-framed : Beyond (24 * st .numbers .limit) out out'
   pub workspace-framed : Beyond (16 * st .numbers .limit) work work'
   pub audited : (Audited st → _≡_ {A = Netted} (record { outcome = o; output = out'; workspace = work' }) (netOf st a b out work))
+
+pub record UnitsPromise (st : State) (t : ℕ) (o : Outcome ℕ) : Type 0 where
+  pub asked : Asked st o
+  pub audited : (Audited st → o ≡ unitsOf st t)
+
+pub record DifferencePromise (st : State) (a b : ℕ) (o : Outcome ℤ) : Type 0 where
+  pub asked : Asked st o
+  pub audited : (Audited st → o ≡ differenceOf st a b)

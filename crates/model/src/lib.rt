@@ -151,6 +151,18 @@ pub enum NetChangeAnswer {
     Refused(Refusal),
 }
 
+// The units on hand at a time.
+pub enum UnitsAnswer {
+    Units(u64),
+    Refused(Refusal),
+}
+
+// The units on hand at a second time less those at a first.
+pub enum DifferenceAnswer {
+    Difference(i64),
+    Refused(Refusal),
+}
+
 impl Settings {
     pub const ORDER_MIN: u16 = 2;
 

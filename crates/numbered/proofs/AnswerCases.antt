@@ -2,6 +2,7 @@
 use Prim.Native.Nat.{ℕ}
 use mathlib.Core.Path.{_≡_, refl}
 use mathlib.Core.List.{List, [], _∷_, map}
+use lib.IntN.{pos, negsuc}
 use Rattle.model.specs.declared.Numbers.{Numbers}
 use Rattle.model.specs.declared.Refusal.{Refusal}
 use Rattle.model.specs.declared.Refusal.the-variants.{Header, Order, PageSize, RowLimit, Memory, TimeNotAbove, ArticlePresent, ArticleAbsent, RowsFull, LogFull, IndexFull, TimeAfterLast, OutputShort, NotToKeep, CatalogueFull, NotKept, WrongRecord}
@@ -12,6 +13,8 @@ use Rattle.model.specs.declared.Place.the-variants.{Empty, Area, Current}
 use Rattle.model.specs.declared.TableAnswer.the-variants as table
 use Rattle.model.specs.declared.ViewAnswer.the-variants as view
 use Rattle.model.specs.declared.NetChangeAnswer.the-variants as net
+use Rattle.model.specs.declared.UnitsAnswer.the-variants as units
+use Rattle.model.specs.declared.DifferenceAnswer.the-variants as difference
 use Rattle.lending.specs.declared.LengthsAnswer.the-variants as lengths
 use Rattle.model.specs.Answers.{refusal}
 use Rattle.answers.specs.Question.{questionOf, recordIn, numberOf}
@@ -21,7 +24,7 @@ use Rattle.numbered.specs.declared.answer.YkTable.{YkTable}
 use Rattle.numbered.specs.declared.outset.YkView.{YkView}
 use Rattle.numbered.specs.declared.answer.YkNetChange.{YkNetChange}
 use Rattle.numbered.specs.declared.needed.YkLengths.{YkLengths}
-use Rattle.numbered.specs.Answers.{changeOut, positionOut, laterOf, tableOut, placeOut, areaOut, spanOf, viewOut, netChangeOut, lengthsOut}
+use Rattle.numbered.specs.Answers.{changeOut, positionOut, laterOf, tableOut, placeOut, areaOut, spanOf, viewOut, netChangeOut, unitsOut, differenceOut, lengthsOut}
 
 -- every refusal's number, as 01 numbers its questions
 abbrev refusals : List Refusal
@@ -77,6 +80,23 @@ empty = refl
 netted : netChangeOut (net.Entries 19) ≡ record { question = 0; entries = 19 }
 unfolding netChangeOut
 netted = refl
+
+totalled : unitsOut (units.Units 12884901885) ≡ record { question = 0; units = 12884901885 }
+unfolding unitsOut
+totalled = refl
+
+-- the stock fell by 18
+fallen : differenceOut (difference.Difference (negsuc 17)) ≡ record { question = 0; units = negsuc 17 }
+unfolding differenceOut
+fallen = refl
+
+no-units : unitsOut (units.Refused TimeAfterLast) ≡ record { question = 12; units = 0 }
+unfolding unitsOut questionOf refusal
+no-units = refl
+
+no-difference : differenceOut (difference.Refused TimeAfterLast) ≡ record { question = 12; units = pos 0 }
+unfolding differenceOut questionOf refusal
+no-difference = refl
 
 late : netChangeOut (net.Refused TimeAfterLast) ≡ record { question = 12; entries = 0 }
 unfolding netChangeOut questionOf refusal

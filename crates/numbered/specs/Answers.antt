@@ -2,6 +2,7 @@
 -- number in 01. Computed cases in which all fields differ are in proofs/AnswerCases. Assumes nothing.
 use Prim.Native.Nat.{ℕ, _-_, _*_, min}
 use mathlib.Core.Bool.{Bool, cond}
+use lib.IntN.{pos}
 use Rattle.model.specs.declared.Numbers.{Numbers}
 use Rattle.model.specs.declared.Verdict.{Verdict}
 use Rattle.model.specs.declared.Verdict.the-variants as verdict
@@ -17,6 +18,10 @@ use Rattle.model.specs.declared.ViewAnswer.{ViewAnswer}
 use Rattle.model.specs.declared.ViewAnswer.the-variants as view
 use Rattle.model.specs.declared.NetChangeAnswer.{NetChangeAnswer}
 use Rattle.model.specs.declared.NetChangeAnswer.the-variants as net
+use Rattle.model.specs.declared.UnitsAnswer.{UnitsAnswer}
+use Rattle.model.specs.declared.UnitsAnswer.the-variants as units
+use Rattle.model.specs.declared.DifferenceAnswer.{DifferenceAnswer}
+use Rattle.model.specs.declared.DifferenceAnswer.the-variants as difference
 use Rattle.lending.specs.declared.LengthsAnswer.{LengthsAnswer}
 use Rattle.lending.specs.declared.LengthsAnswer.the-variants as lengths
 use Rattle.answers.specs.Question.{numberOf, recordOf}
@@ -25,6 +30,8 @@ use Rattle.numbered.specs.declared.answer.YkPosition.{YkPosition}
 use Rattle.numbered.specs.declared.answer.YkTable.{YkTable}
 use Rattle.numbered.specs.declared.outset.YkView.{YkView}
 use Rattle.numbered.specs.declared.answer.YkNetChange.{YkNetChange}
+use Rattle.numbered.specs.declared.answer.YkUnits.{YkUnits}
+use Rattle.numbered.specs.declared.answer.YkDifference.{YkDifference}
 use Rattle.numbered.specs.declared.outset.Span.{Span}
 use Rattle.numbered.specs.declared.needed.YkLengths.{YkLengths}
 
@@ -82,11 +89,19 @@ viewOut R areas current (view.Outset place rows side between) =
 viewOut R areas current (view.Refused why) =
     record { question = numberOf why; place = 0; area = 0; rows = 0; later = 0; between = 0; start = 0; length = 0 }
 
--- ---- net change and audit
+-- ---- net change, units and audit
 
 unfoldable pub netChangeOut : NetChangeAnswer → YkNetChange
 netChangeOut (net.Entries k) = record { question = 0; entries = k }
 netChangeOut (net.Refused why) = record { question = numberOf why; entries = 0 }
+
+unfoldable pub unitsOut : UnitsAnswer → YkUnits
+unitsOut (units.Units k) = record { question = 0; units = k }
+unitsOut (units.Refused why) = record { question = numberOf why; units = 0 }
+
+unfoldable pub differenceOut : DifferenceAnswer → YkDifference
+differenceOut (difference.Difference k) = record { question = 0; units = k }
+differenceOut (difference.Refused why) = record { question = numberOf why; units = pos 0 }
 
 -- 1 for yes
 abbrev pub yesOut : Bool → ℕ

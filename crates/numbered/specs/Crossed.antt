@@ -14,11 +14,13 @@ use Rattle.model.specs.declared.PositionAnswer.{PositionAnswer}
 use Rattle.model.specs.declared.TableAnswer.{TableAnswer}
 use Rattle.model.specs.declared.ViewAnswer.{ViewAnswer}
 use Rattle.model.specs.declared.NetChangeAnswer.{NetChangeAnswer}
-use Rattle.model.specs.Answers.{Outcome, verdictOutcome, positionOutcome, tableOutcome, viewOutcome, netChangeOutcome}
+use Rattle.model.specs.declared.UnitsAnswer.{UnitsAnswer}
+use Rattle.model.specs.declared.DifferenceAnswer.{DifferenceAnswer}
+use Rattle.model.specs.Answers.{Outcome, verdictOutcome, positionOutcome, tableOutcome, viewOutcome, netChangeOutcome, unitsOutcome, differenceOutcome}
 use Rattle.model.specs.Memory.{Memory, State, state}
 use Rattle.model.specs.Starts.{After, after, openOf}
 use Rattle.model.specs.FirstWrong.{DueAt17}
-use Rattle.model.specs.Promises.{AppendPromise, FilesPromise, PositionPromise, TablePromise, ViewPromise, NetChangePromise}
+use Rattle.model.specs.Promises.{AppendPromise, FilesPromise, PositionPromise, TablePromise, ViewPromise, NetChangePromise, UnitsPromise, DifferencePromise}
 use Rattle.lending.specs.declared.LengthsAnswer.{LengthsAnswer}
 use Rattle.lending.specs.Lengths.{lengthsOf, lengthsOutcome}
 use Rattle.numbered.specs.declared.answer.YkChange.{YkChange}
@@ -26,8 +28,10 @@ use Rattle.numbered.specs.declared.answer.YkPosition.{YkPosition}
 use Rattle.numbered.specs.declared.answer.YkTable.{YkTable}
 use Rattle.numbered.specs.declared.outset.YkView.{YkView}
 use Rattle.numbered.specs.declared.answer.YkNetChange.{YkNetChange}
+use Rattle.numbered.specs.declared.answer.YkUnits.{YkUnits}
+use Rattle.numbered.specs.declared.answer.YkDifference.{YkDifference}
 use Rattle.numbered.specs.declared.needed.YkLengths.{YkLengths}
-use Rattle.numbered.specs.Answers.{changeOut, positionOut, tableOut, viewOut, netChangeOut, lengthsOut}
+use Rattle.numbered.specs.Answers.{changeOut, positionOut, tableOut, viewOut, netChangeOut, unitsOut, differenceOut, lengthsOut}
 
 -- a call that may change the store; Kept is what its promise says of the outcome and of the store then
 pub record ChangeCrossed (Kept : Outcome Unit → State → Type 0) (r : YkChange) (memory' : Memory) : Type 0 where
@@ -78,6 +82,16 @@ pub record NetChangeCrossed (r : YkNetChange) (st : State) (a b : ℕ) (out work
   pub answer : NetChangeAnswer
   pub is : r ≡ netChangeOut answer
   pub kept : NetChangePromise st a b out work (netChangeOutcome answer) out' work'
+
+pub record UnitsCrossed (r : YkUnits) (st : State) (t : ℕ) : Type 0 where
+  pub answer : UnitsAnswer
+  pub is : r ≡ unitsOut answer
+  pub kept : UnitsPromise st t (unitsOutcome answer)
+
+pub record DifferenceCrossed (r : YkDifference) (st : State) (a b : ℕ) : Type 0 where
+  pub answer : DifferenceAnswer
+  pub is : r ≡ differenceOut answer
+  pub kept : DifferencePromise st a b (differenceOutcome answer)
 
 -- the lengths to lend are those of the definition
 pub record LengthsCrossed (r : YkLengths) (d N R n f : ℕ) : Type 0 where

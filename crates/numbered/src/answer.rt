@@ -1,15 +1,17 @@
 // The answers in numbers: for each answer of a call the struct that crosses to C in its place.
 ghost use mathlib.Core.Path.{_≡_};
-ghost use Rattle.numbered.specs.Answers.{changeOut, positionOut, laterOf, tableOut, netChangeOut, yesOut};
+ghost use Rattle.numbered.specs.Answers.{changeOut, positionOut, laterOf, tableOut, netChangeOut, unitsOut, differenceOut, yesOut};
 use answers::question;
 use catalogue::Catalogue;
 use filing::Filed;
 use model::Changed;
+use model::DifferenceAnswer;
 use model::NetChangeAnswer;
 use model::Numbers;
 use model::PositionAnswer;
 use model::Side;
 use model::TableAnswer;
+use model::UnitsAnswer;
 use model::Verdict;
 use opening::Started;
 
@@ -43,6 +45,20 @@ pub struct YkTable {
 pub struct YkNetChange {
     pub question: u8,
     pub entries: u32,
+}
+
+// The answer of the units at a time.
+#[repr(C)]
+pub struct YkUnits {
+    pub question: u8,
+    pub units: u64,
+}
+
+// The answer of the units between two times, the second less the first.
+#[repr(C)]
+pub struct YkDifference {
+    pub question: u8,
+    pub units: i64,
 }
 
 // What a start answers, and how many entries of the catalogue are to be cleared.
@@ -182,6 +198,36 @@ pub fn net_change_out(answer: NetChangeAnswer) -> YkNetChange
         NetChangeAnswer::Refused(why) => YkNetChange {
             question: question(why),
             entries: 0,
+        },
+    }
+}
+
+pub fn units_out(answer: UnitsAnswer) -> YkUnits
+    ensures { λ r. ⌜ r ≡ unitsOut answer ⌝ }
+{
+    match answer {
+        UnitsAnswer::Units(k) => YkUnits {
+            question: 0,
+            units: k,
+        },
+        UnitsAnswer::Refused(why) => YkUnits {
+            question: question(why),
+            units: 0,
+        },
+    }
+}
+
+pub fn difference_out(answer: DifferenceAnswer) -> YkDifference
+    ensures { λ r. ⌜ r ≡ differenceOut answer ⌝ }
+{
+    match answer {
+        DifferenceAnswer::Difference(k) => YkDifference {
+            question: 0,
+            units: k,
+        },
+        DifferenceAnswer::Refused(why) => YkDifference {
+            question: question(why),
+            units: 0,
         },
     }
 }

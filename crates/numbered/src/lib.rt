@@ -12,13 +12,15 @@ ghost use Rattle.model.specs.Audit.{auditOf};
 ghost use Rattle.catalogue.specs.Files.{byValue, writtenBack};
 ghost use Rattle.numbered.specs.Answers.{yesOut};
 ghost use Rattle.numbered.specs.Lent.{memoryOf, cleared, memoryLent, memoryLeft, storeLent};
-ghost use Rattle.numbered.specs.Crossed.{StartCrossed, AppendCrossed, PositionCrossed, TableCrossed, ViewCrossed, NetChangeCrossed, FilesCrossed, LengthsCrossed};
+ghost use Rattle.numbered.specs.Crossed.{StartCrossed, AppendCrossed, PositionCrossed, TableCrossed, ViewCrossed, NetChangeCrossed, UnitsCrossed, DifferenceCrossed, FilesCrossed, LengthsCrossed};
 use answer::Begun;
 use answer::Refiled;
 use answer::YkChange;
+use answer::YkDifference;
 use answer::YkNetChange;
 use answer::YkPosition;
 use answer::YkTable;
+use answer::YkUnits;
 use catalogue::Catalogue;
 use model::Numbers;
 use needed::YkLengths;
@@ -187,6 +189,37 @@ pub fn net_change<'a>(
         (now (out .entry)) (now (work .entry)) (now (out .exit)) (now (work .exit))) ⌝ }
 {
     answer::net_change_out(comparing::net_change(s, log, index, current, c, areas, a, b, out, work))
+}
+
+pub fn units<'a>(
+    s: Numbers,
+    log: &[u8],
+    index: &[u64],
+    current: &'a [u8],
+    c: Catalogue,
+    areas: &'a [u8],
+    t: u64,
+) -> YkUnits
+    ensures { λ r. ⌜ ((catalogue : List Entry) → c ≡ byValue catalogue
+        → UnitsCrossed r (storeLent s log index current catalogue (now (areas .entry))) t) ⌝ }
+{
+    answer::units_out(units::at(s, log, index, current, c, areas, t))
+}
+
+pub fn units_between<'a>(
+    s: Numbers,
+    log: &[u8],
+    index: &[u64],
+    current: &'a [u8],
+    c: Catalogue,
+    areas: &'a [u8],
+    a: u64,
+    b: u64,
+) -> YkDifference
+    ensures { λ r. ⌜ ((catalogue : List Entry) → c ≡ byValue catalogue
+        → DifferenceCrossed r (storeLent s log index current catalogue (now (areas .entry))) a b) ⌝ }
+{
+    answer::difference_out(units::between(s, log, index, current, c, areas, a, b))
 }
 
 pub fn keep(

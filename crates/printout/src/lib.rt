@@ -1,5 +1,6 @@
-// What the listing program does (01, "One log by hand"): it reads a log from standard input and prints a line for each different
-// request time: the time, its page position, E or L for the earlier or later outset, and the rows of its table.
+// What the listing program does (01, "One log by hand"; 02, wish 1): it reads a log from standard input and prints a line for each
+// different request time: the time, its page position, E or L for the earlier or later outset, and the rows of its table; and as
+// the last line the units of the last table.
 mod input;
 mod output;
 
@@ -11,6 +12,7 @@ use model::PositionAnswer;
 use model::RecordNumber;
 use model::Refusal;
 use model::TableAnswer;
+use model::UnitsAnswer;
 use model::Verdict;
 use output::Room;
 use reader::Step;
@@ -72,7 +74,32 @@ fn record_after(k: u32, requests: u32) -> u32
     k + 1
 }
 
-// A line for each different time among the records.
+// Gathers the last line, writes what is still to be written, and answers the status.
+fn list_units(
+    s: Numbers,
+    log: &[u8],
+    index: &[u64],
+    current: &[u8],
+    buffer: &mut [u8],
+    at: usize,
+) -> u8
+    requires { ⌜ at ≤ length (now buffer) ⌝ }
+    requires { ⌜ 65 ≤ length (now buffer) ⌝ }
+    ensures { λ r. ⌜ r ≤ 3 ⌝ }
+{
+    let Room::At(room) = output::make_room(buffer, at) else {
+        return output::fail();
+    };
+    let none = &current[0..0];
+    let UnitsAnswer::Units(total) = units::at(s, log, index, current, no_files(), none, s.last)
+    else {
+        return output::finish(buffer, room, output::LISTED);
+    };
+    let end = lines::put_units(buffer, room, total);
+    output::finish(buffer, end, output::LISTED)
+}
+
+// A line for each different time among the records, and the units.
 fn list(
     s: Numbers,
     log: &[u8],
@@ -88,7 +115,7 @@ fn list(
     let mut k: u32 = 0;
     while k < 65536 {
         let Step::Next(r) = reader::record_of(log, RecordNumber(k)) else {
-            return output::finish(buffer, at, output::LISTED);
+            return list_units(s, log, index, current, buffer, at);
         };
         let Room::At(room) = output::make_room(buffer, at) else {
             return output::fail();
@@ -97,7 +124,7 @@ fn list(
         at = listed.at;
         k = record_after(k, listed.requests);
     }
-    output::finish(buffer, at, output::LISTED)
+    list_units(s, log, index, current, buffer, at)
 }
 
 fn print_listing(s: Numbers, log: &[u8], index: &[u64], current: &[u8]) -> u8

@@ -3,4 +3,5 @@ pub mod OnTables
 pub mod Places
 pub mod Searches
 pub mod TableBytes
+pub mod Sums
 pub mod TableLaws

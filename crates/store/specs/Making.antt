@@ -3,13 +3,13 @@
 use Prim.Native.Nat.{ℕ}
 use mathlib.Core.Path.{_≡_}
 use mathlib.Core.List.{List}
-use Rattle.model.specs.Answers.{verdictOutcome, positionOutcome, tableOutcome, viewOutcome, netChangeOutcome}
+use Rattle.model.specs.Answers.{verdictOutcome, positionOutcome, tableOutcome, viewOutcome, netChangeOutcome, unitsOutcome, differenceOutcome}
 use Rattle.model.specs.Memory.{State}
 use Rattle.model.specs.Calls as calls
 use Rattle.model.specs.Chains.{Carried}
 use Rattle.tables.specs.Parts.{viewedPart}
 use Rattle.store.specs.declared.Call.{Call}
-use Rattle.store.specs.declared.Call.the-variants.{Insert, Delete, Update, Position, Table, View, NetChange, Keep, Drop, Audit}
+use Rattle.store.specs.declared.Call.the-variants.{Insert, Delete, Update, Position, Table, View, NetChange, Units, Difference, Keep, Drop, Audit}
 use Rattle.store.specs.declared.Said.{Said}
 use Rattle.store.specs.declared.Said.the-variants as said
 
@@ -22,6 +22,8 @@ callOf (Position time) out work = calls.Call.position time
 callOf (Table time) out work = calls.Call.table time out
 callOf (View time) out work = calls.Call.view time
 callOf (NetChange a b) out work = calls.Call.netChange a b out work
+callOf (Units time) out work = calls.Call.units time
+callOf (Difference a b) out work = calls.Call.difference a b
 callOf (Keep time) out work = calls.Call.keep time
 callOf (Drop time) out work = calls.Call.drop time
 callOf Audit out work = calls.Call.audit
@@ -33,6 +35,8 @@ saidOf R areas current out' work' (said.Position x) = calls.positioned (position
 saidOf R areas current out' work' (said.Table x) = calls.written (record { outcome = tableOutcome x; output = out' })
 saidOf R areas current out' work' (said.View x) = calls.viewed (record { outcome = viewOutcome x; rows = viewedPart R areas current x })
 saidOf R areas current out' work' (said.NetChange x) = calls.netted (record { outcome = netChangeOutcome x; output = out'; workspace = work' })
+saidOf R areas current out' work' (said.Units x) = calls.totalled (unitsOutcome x)
+saidOf R areas current out' work' (said.Difference x) = calls.differed (differenceOutcome x)
 saidOf R areas current out' work' (said.Audit b) = calls.audited b
 
 -- an output or a workspace that a call has no use for stays as it was
@@ -44,6 +48,8 @@ OutputsKept (Position time) out out' work work' = (out' ≡ out) × (work' ≡ w
 OutputsKept (Table time) out out' work work' = work' ≡ work
 OutputsKept (View time) out out' work work' = (out' ≡ out) × (work' ≡ work)
 OutputsKept (NetChange a b) out out' work work' = Unit
+OutputsKept (Units time) out out' work work' = (out' ≡ out) × (work' ≡ work)
+OutputsKept (Difference a b) out out' work work' = (out' ≡ out) × (work' ≡ work)
 OutputsKept (Keep time) out out' work work' = (out' ≡ out) × (work' ≡ work)
 OutputsKept (Drop time) out out' work work' = (out' ≡ out) × (work' ≡ work)
 OutputsKept Audit out out' work work' = (out' ≡ out) × (work' ≡ work)

@@ -12,10 +12,12 @@ ghost use Rattle.store.specs.Making.{MadeAs};
 use catalogue::Catalogue;
 use filing::Filed;
 use model::Changed;
+use model::DifferenceAnswer;
 use model::NetChangeAnswer;
 use model::Numbers;
 use model::PositionAnswer;
 use model::TableAnswer;
+use model::UnitsAnswer;
 use model::Verdict;
 use model::ViewAnswer;
 
@@ -28,6 +30,8 @@ pub enum Call {
     Table(u64),
     View(u64),
     NetChange { a: u64, b: u64 },
+    Units(u64),
+    Difference { a: u64, b: u64 },
     Keep(u64),
     Drop(u64),
     Audit,
@@ -40,6 +44,8 @@ pub enum Said {
     Table(TableAnswer),
     View(ViewAnswer),
     NetChange(NetChangeAnswer),
+    Units(UnitsAnswer),
+    Difference(DifferenceAnswer),
     Audit(bool),
 }
 
@@ -159,6 +165,14 @@ pub fn make(
         Call::NetChange { a, b } => {
             let x = comparing::net_change(s, log, index, current, c, areas, a, b, out, work);
             answered(s, c, Said::NetChange(x))
+        }
+        Call::Units(t) => {
+            let x = units::at(s, log, index, current, c, areas, t);
+            answered(s, c, Said::Units(x))
+        }
+        Call::Difference { a, b } => {
+            let x = units::between(s, log, index, current, c, areas, a, b);
+            answered(s, c, Said::Difference(x))
         }
         Call::Keep(t) => filed(filing::keep(s, log, index, current, c, areas, t)),
         Call::Drop(t) => filed(filing::drop(s, log, index, current, c, areas, t)),

@@ -1,4 +1,4 @@
--- Lists of calls on 01's log: what each of the ten calls answers with 20 kept, and of which times a file is held along keeps and
+-- Lists of calls on 01's log: what each of the twelve calls answers with 20 kept, and of which times a file is held along keeps and
 -- drops. Refusals told apart. Rows of the report's set. Assumes nothing.
 use Prim.Native.Nat.{ℕ, zero, suc, _≤_, _<_}
 use mathlib.Core.Path.{_≡_, refl, ap}
@@ -6,6 +6,7 @@ use mathlib.Core.List.{List, [], _∷_, _++_, map}
 use mathlib.Core.Bool.{true, false}
 use native.Mathlib.Omega.{arith}
 use lib.ListN.{getD, replicate}
+use lib.IntN.{negsuc}
 use Rattle.model.specs.declared.Side.the-variants.{Earlier}
 use Rattle.model.specs.declared.Place.the-variants.{Area}
 use Rattle.model.specs.Answers.{Outcome, answers, refuses, refusesAt, question}
@@ -16,7 +17,7 @@ use Rattle.model.specs.Memory.{State, state}
 use Rattle.model.specs.Queries.{positionOf}
 use Rattle.model.specs.Files.{filesOf, isKept, dropOf}
 use Rattle.model.specs.Promises.{isRefused, refusedAmong, Asked}
-use Rattle.model.specs.Calls.{Call, run, changed, positioned, written, viewed, netted, audited, answerOf}
+use Rattle.model.specs.Calls.{Call, run, changed, positioned, written, viewed, netted, totalled, differed, audited, answerOf}
 use Rattle.model.specs.Demands.{heldNext, heldAfter}
 use Rattle.worked.proofs.Computing.{computing}
 use Rattle.worked.proofs.WorkedLog.{workedRecords, worked, located, table20, table45, change20to45, told, changes, seen}
@@ -33,12 +34,13 @@ roomy =
 
 each-answers : map (answerOf roomy)
     (Call.insert 61 3 5 ∷ Call.insert 61 7 5 ∷ Call.delete 61 7 ∷ Call.delete 61 3 ∷ Call.update 61 9 8 ∷ Call.update 60 9 8 ∷ Call.position 35 ∷ Call.position 61
-    ∷ Call.table 45 (replicate 33 77) ∷ Call.view 20 ∷ Call.netChange 20 45 (replicate 97 77) (replicate 65 77) ∷ Call.keep 40 ∷ Call.keep 20
+    ∷ Call.table 45 (replicate 33 77) ∷ Call.view 20 ∷ Call.netChange 20 45 (replicate 97 77) (replicate 65 77) ∷ Call.units 45 ∷ Call.units 61
+    ∷ Call.difference 20 45 ∷ Call.difference 20 61 ∷ Call.keep 40 ∷ Call.keep 20
     ∷ Call.drop 20 ∷ Call.drop 40 ∷ Call.audit ∷ [])
     ≡ changed (answers tt) ∷ changed (refuses 7) ∷ changed (answers tt) ∷ changed (refuses 8) ∷ changed (answers tt) ∷ changed (refuses 6) ∷ positioned (located 1 4)
     ∷ positioned (refuses 12) ∷ written (told 1 Earlier 3 table45)
     ∷ viewed (seen (Area 0) 2 Earlier 0 (3 ∷ 0 ∷ 0 ∷ 0 ∷ 12 ∷ 0 ∷ 0 ∷ 0 ∷ 7 ∷ 0 ∷ 0 ∷ 0 ∷ 50 ∷ 0 ∷ 0 ∷ 0 ∷ []))
-    ∷ netted (changes 3 change20to45 (table20 ++ table45)) ∷ changed (answers tt) ∷ changed (refuses 14) ∷ changed (answers tt) ∷ changed (refuses 16)
+    ∷ netted (changes 3 change20to45 (table20 ++ table45)) ∷ totalled (answers 44) ∷ totalled (refuses 12) ∷ differed (answers (negsuc 17)) ∷ differed (refuses 12) ∷ changed (answers tt) ∷ changed (refuses 14) ∷ changed (answers tt) ∷ changed (refuses 16)
     ∷ audited true ∷ []
 unfolding computing
 each-answers = refl

@@ -8,6 +8,7 @@ pub mod QuestionOne
 pub mod StartCases
 pub mod FirstWrongCases
 pub mod PositionCases
+pub mod UnitsCases
 pub mod QuestionCases
 pub mod QueryCases
 pub mod MemoryCases

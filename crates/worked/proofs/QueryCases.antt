@@ -1,13 +1,15 @@
--- The questions of position, table, view and net change in their order (01, "The questions, in order"): each two neighbours
+-- The questions of position, table, view, net change and units in their order (01, "The questions, in order"): each two neighbours
 -- answered no together, each one alone, and the least lengths that suffice. Outputs and workspaces are lent memory, so a
 -- refusal leaves them as they were. Assumes nothing.
 use Prim.Native.Nat.{ℕ}
 use mathlib.Core.Path.{_≡_, refl}
 use mathlib.Core.List.{List, [], _∷_}
 use lib.ListN.{replicate}
+use lib.IntN.{negsuc}
 use Rattle.model.specs.Answers.{answers, refuses, TableSaid}
 use Rattle.model.specs.Memory.{State}
 use Rattle.model.specs.Queries.{timeQuestions, positionOf, Written, tableQuestions, tableOf, Viewed, viewOf, Netted, netQuestions, netOf}
+use Rattle.model.specs.Units.{unitsOf, differenceQuestions, differenceOf}
 use Rattle.worked.proofs.Computing.{computing}
 use Rattle.worked.proofs.WorkedLog.{worked, located}
 use Rattle.worked.proofs.QuestionOne.{full, unsound}
@@ -81,3 +83,19 @@ net-changes = refl
 enough-net : nets (full 0 0) 10 0 24 16 .outcome ≡ answers 1
 unfolding computing
 enough-net = refl
+
+-- units: 1 12; 12 alone; the last time is answered
+units : (unitsOf unsound 11 ∷ unitsOf (full 0 0) 11 ∷ unitsOf worked 61 ∷ unitsOf (full 0 0) 10 ∷ []) ≡ refuses 1 ∷ refuses 12 ∷ refuses 12 ∷ answers 8 ∷ []
+unfolding computing
+units = refl
+
+difference-noes : (noes (differenceQuestions unsound 11 11) ∷ noes (differenceQuestions (full 0 0) 11 11) ∷ noes (differenceQuestions (full 0 0) 11 10)
+    ∷ noes (differenceQuestions (full 0 0) 10 11) ∷ noes (differenceQuestions (full 0 0) 0 10) ∷ []) ≡ (1 ∷ 12 ∷ 12 ∷ []) ∷ (12 ∷ 12 ∷ []) ∷ (12 ∷ []) ∷ (12 ∷ []) ∷ [] ∷ []
+unfolding computing noes
+difference-noes = refl
+
+-- 1 12, both 12; then 12 of the first time, 12 of the second
+differences : (differenceOf unsound 11 11 ∷ differenceOf (full 0 0) 11 11 ∷ differenceOf (full 0 0) 11 10 ∷ differenceOf (full 0 0) 10 11 ∷ differenceOf (full 0 0) 10 0 ∷ [])
+    ≡ refuses 1 ∷ refuses 12 ∷ refuses 12 ∷ refuses 12 ∷ answers (negsuc 7) ∷ []
+unfolding computing
+differences = refl

@@ -28,6 +28,9 @@ pub enum Call {
     View(u64),
     /// both times, and the lengths of the output and of the workspace
     NetChange(u64, u64, usize, usize),
+    Units(u64),
+    /// both times
+    UnitsBetween(u64, u64),
     Keep(u64),
     Drop(u64),
     Audit,
@@ -44,7 +47,7 @@ impl Call {
             Call::Open => &[1, 2, 3, 4, 5, 17],
             Call::Insert(..) => &[1, 6, 7, 9, 10, 11],
             Call::Delete(..) | Call::Update(..) => &[1, 6, 8, 10, 11],
-            Call::Position(_) | Call::View(_) => &[1, 12],
+            Call::Position(_) | Call::View(_) | Call::Units(_) | Call::UnitsBetween(..) => &[1, 12],
             Call::Table(..) | Call::NetChange(..) => &[1, 12, 13],
             Call::Keep(_) => &[1, 12, 14, 15],
             Call::Drop(_) => &[1, 16],
@@ -56,6 +59,8 @@ impl Call {
 /// How a list goes on after its start.
 pub struct Plan {
     articles: u32,
+    /// the largest count; where it is small, totals agree though tables differ
+    most: u32,
     /// in a hundred calls, how many are a stranger's damage
     damage: u64,
     /// in a hundred calls, how many append
@@ -73,10 +78,11 @@ impl Plan {
     pub fn new(random: &mut Random) -> Plan {
         Plan {
             articles: random.pick(&[2, 9, 40, 1_000]),
+            most: random.pick(&[1, 2, 99, u32::MAX, u32::MAX]),
             damage: random.pick(&[0, 0, 5, 20]),
             appends: random.pick(&[30, 50, 75]),
-            files: random.pick(&[20, 35, 60]),
-            keeps: random.pick(&[60, 80, 97]),
+            files: random.pick(&[20, 40, 75]),
+            keeps: random.pick(&[60, 90, 98]),
             step: random.pick(&[1, 3, 1 << 40, 1 << 59]),
             calls: if random.percent(90) { random.from(1, 90) } else { random.from(90, 600) },
         }

@@ -1,4 +1,4 @@
-//! The listing program (01, "One log by hand"): what it prints for the bytes on its standard input.
+//! The listing program (01, "One log by hand"; 02, wish 1): what it prints for the bytes on its standard input.
 
 use crate::layout::Record;
 use crate::limits::ROW_LIMITS;
@@ -35,6 +35,8 @@ fn lines(input: &[u8]) -> Result<String, Refusal> {
         };
         lines += &format!("{time} {page} {side} {}\n", answer.rows);
     }
+    // of the last table, which is the empty one of time 0 where there is no request
+    lines += &format!("units {}\n", store.units(store.numbers.last)?);
     Ok(lines)
 }
 

@@ -159,6 +159,34 @@ impl<'a> Store<'a> {
         answers::net_change(answer)
     }
 
+    /// The units on hand at t.
+    pub fn units(&self, t: u64) -> Result<u64, Refusal> {
+        let Memory { log, index, table, entries, areas } = &self.memory;
+        let answer = unsafe {
+            c::yk_units(
+                self.numbers,
+                log.as_ptr(), log.len(), index.as_ptr(), index.len(), table.as_ptr(), table.len(),
+                entries.as_ptr(), entries.len(), areas.as_ptr(), areas.len(),
+                t,
+            )
+        };
+        answers::units(answer)
+    }
+
+    /// The units at b less those at a.
+    pub fn units_between(&self, a: u64, b: u64) -> Result<i64, Refusal> {
+        let Memory { log, index, table, entries, areas } = &self.memory;
+        let answer = unsafe {
+            c::yk_units_between(
+                self.numbers,
+                log.as_ptr(), log.len(), index.as_ptr(), index.len(), table.as_ptr(), table.len(),
+                entries.as_ptr(), entries.len(), areas.as_ptr(), areas.len(),
+                a, b,
+            )
+        };
+        answers::units_between(answer)
+    }
+
     pub fn keep(&mut self, t: u64) -> Result<(), Refusal> {
         let Memory { log, index, table, entries, areas } = &mut self.memory;
         let answer = unsafe {

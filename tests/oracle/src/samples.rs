@@ -35,6 +35,29 @@ pub const SPLIT_AT_20: [Request; 4] =
 pub const SPLIT_AT_40: [Request; 5] =
     [Insert(10, 7, 50), Insert(20, 3, 12), Insert(30, 9, 5), Update(40, 7, 50, 44), Insert(50, 8, 1)];
 
+/// Totals 4294967295, 8589934590, 12884901884 and 12884901882: above 2^32 from the second request on.
+pub const OVER_32_BITS: [Request; 4] = [
+    Insert(10, 1, u32::MAX),
+    Insert(20, 2, u32::MAX),
+    Insert(30, 3, u32::MAX - 1),
+    Update(40, 2, u32::MAX, u32::MAX - 2),
+];
+
+/// Totals 50, 80, 92, 32, 32, 37 and 32: an update raises, lowers and leaves them.
+pub const RAISED_AND_LOWERED: [Request; 7] = [
+    Insert(10, 7, 50),
+    Update(20, 7, 50, 80),
+    Insert(30, 3, 12),
+    Update(40, 7, 80, 20),
+    Update(50, 3, 12, 12),
+    Insert(60, 9, 5),
+    Delete(70, 9, 5),
+];
+
+/// Totals 50, 44, 56, 12 and 0.
+pub const EMPTIED_AGAIN: [Request; 5] =
+    [Insert(10, 7, 50), Update(20, 7, 50, 44), Insert(30, 3, 12), Delete(40, 7, 44), Delete(50, 3, 12)];
+
 /// The records of these requests, an update being two.
 pub fn records_of(requests: &[Request]) -> Vec<Record> {
     let mut records = Vec::new();
@@ -97,6 +120,10 @@ pub fn samples() -> Vec<(&'static str, Vec<u8>)> {
         ("split-update-tie", log_of(3, 2, 4, &records_of(&SPLIT_AT_40))),
         ("crowded-start", crowded([1, 2, 3, 4, 1_000])),
         ("crowded-end", crowded([996, 997, 998, 999, 1_000])),
+        // the units below the last table (02, wish 1)
+        ("units-over-32-bits", log_of(3, 2, 4, &records_of(&OVER_32_BITS))),
+        ("units-raised-and-lowered", log_of(3, 2, 4, &records_of(&RAISED_AND_LOWERED))),
+        ("units-of-an-emptied-store", log_of(3, 2, 4, &records_of(&EMPTIED_AGAIN))),
     ]
 }
 

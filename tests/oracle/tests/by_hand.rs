@@ -136,6 +136,7 @@ fn refusals() {
 
 #[test]
 fn listing_of_the_log() {
-    let expected = "time page outset rows\n10 0 E 1\n20 0 E 2\n30 1 E 2\n40 2 L 1\n50 2 L 2\n60 3 L 2\n";
+    let expected =
+        "time page outset rows\n10 0 E 1\n20 0 E 2\n30 1 E 2\n40 2 L 1\n50 2 L 2\n60 3 L 2\nunits 50\n";
     assert_eq!(listing(&log_by_hand()), expected);
 }

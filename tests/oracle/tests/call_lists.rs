@@ -3,7 +3,7 @@
 
 mod common;
 
-use common::{candidates, records_between, STRANGE};
+use common::{candidates, records_between, units::on_hand, STRANGE};
 use oracle::generate::legal_log;
 use oracle::layout::Row;
 use oracle::log::{log_length, page_times};
@@ -34,7 +34,7 @@ fn call(random: &mut Random, store: &mut Store) -> Result<(), Refusal> {
     let short = random.percent(10) as usize;
     let mut output = vec![STRANGE; output_length(row_limit) - short];
     let mut workspace = vec![STRANGE; 2 * table_length(row_limit)];
-    match random.from(0, 11) {
+    match random.from(0, 13) {
         0..=2 => store.insert(if random.percent(95) { next } else { t }, article, count),
         3 => store.delete(next, article),
         4 => store.update(next, article, count),
@@ -47,6 +47,8 @@ fn call(random: &mut Random, store: &mut Store) -> Result<(), Refusal> {
             let kept = store.memory.catalogue.first().map_or(t, |entry| entry.time);
             store.drop_file(if random.percent(50) { kept } else { t })
         }
+        11 => store.units(t).map(|_| ()),
+        12 => store.units_between(t, other).map(|_| ()),
         _ => {
             store.audit();
             Ok(())
@@ -93,6 +95,10 @@ fn check(random: &mut Random, store: &Store) {
     let list = net_change(&rows_a, &rows_b);
     assert!(leads(&list, &rows_a, &rows_b));
     assert_eq!(list.is_empty(), rows_a == rows_b);
+
+    let (units_a, units_b) = (on_hand(&records, a), on_hand(&records, b));
+    assert_eq!(store.units(a).unwrap() as i128, units_a);
+    assert_eq!(store.units_between(a, b).unwrap() as i128, units_b - units_a);
 }
 
 /// The table of t, with its outset checked: of the two candidates the one with fewest requests between,

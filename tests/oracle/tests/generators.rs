@@ -4,13 +4,14 @@
 mod common;
 
 use common::legal::form_right;
+use common::units::{on_hand, told_apart, wrong_totals};
 use oracle::generate::{case, damages, legal_log, Damage, MOST_LISTED};
-use oracle::layout::Header;
+use oracle::layout::{Header, Record};
 use oracle::listing::{listing, HEADING, LENT_LOG};
 use oracle::log::{first_wrong, last_time, records};
 use oracle::random::Random;
 use oracle::store::{Memory, Refusal, Store};
-use std::collections::BTreeSet;
+use std::collections::{BTreeMap, BTreeSet};
 
 #[test]
 fn legal_logs_are_legal_and_varied() {
@@ -142,6 +143,15 @@ fn line(text: &str) -> (u64, u32, bool) {
     (fields[0].parse().unwrap(), fields[1].parse().unwrap(), fields[2] == "L")
 }
 
+/// The records and the lines below the heading of a log that `compare_listing` takes, if it is not refused.
+fn listed_case(number: u64) -> Option<(Vec<Record>, Vec<String>)> {
+    let mut bytes = case(&mut Random::for_case(2055, number)).bytes;
+    let output = listing(&bytes);
+    let lines = output.strip_prefix(HEADING)?.lines().map(String::from).collect();
+    bytes.resize(LENT_LOG.max(bytes.len()), 0);
+    Some((records(&bytes, Header::read(&bytes).records), lines))
+}
+
 /// The logs that `compare_listing` takes first: many tell nearness in requests (02, wish 6) from nearness in pages.
 ///
 /// Without a file the candidates are time 0 and the last time. There pages never chose the later one against the
@@ -151,13 +161,10 @@ fn line(text: &str) -> (u64, u32, bool) {
 fn listings_are_other_than_by_pages() {
     let (mut logs, mut lines, mut ties, mut updates) = (0, 0, 0, 0);
     for number in 0..1000 {
-        let mut bytes = case(&mut Random::for_case(2055, number)).bytes;
-        let output = listing(&bytes);
-        let listed: Vec<_> = output.lines().skip(1).map(line).collect();
+        let Some((records, output)) = listed_case(number) else { continue };
+        let n = records.len() as u32;
+        let listed: Vec<_> = output[..output.len() - 1].iter().map(|text| line(text)).collect();
         let Some(&(_, last_page, _)) = listed.last() else { continue };
-        bytes.resize(LENT_LOG.max(bytes.len()), 0);
-        let n = Header::read(&bytes).records;
-        let records = records(&bytes, n);
         let before = lines;
         for (i, &(time, page, later)) in listed.iter().enumerate() {
             let until = records.iter().filter(|record| record.time <= time).count() as u32;
@@ -173,4 +180,24 @@ fn listings_are_other_than_by_pages() {
         logs += (lines > before) as u32;
     }
     assert!(logs > 300 && lines > 2000 && ties > 100 && updates > 200, "{logs}, {lines}, {ties}, {updates}");
+}
+
+/// The same logs: below the last table stand its units, and many of them are other by a wrong way.
+#[test]
+fn listings_tell_wrong_totals() {
+    let mut met: BTreeMap<&'static str, u32> = BTreeMap::new();
+    for number in 0..1000 {
+        let Some((records, lines)) = listed_case(number) else { continue };
+        let last = last_time(&records);
+        let right = on_hand(&records, last);
+        assert_eq!(lines[lines.len() - 1], format!("units {right}"), "case {number}");
+        let mut shown = told_apart(right, wrong_totals(&records, last));
+        if right == 0 && !records.is_empty() {
+            shown.push("0 after requests");
+        }
+        shown.into_iter().for_each(|name| *met.entry(name).or_default() += 1);
+    }
+    // all wrong totals but the current one, which is the total of the last table
+    assert_eq!(met.len(), 7, "{met:?}");
+    assert!(met.values().all(|often| *often >= 20), "{met:?}");
 }

@@ -3,6 +3,7 @@
 
 mod common;
 
+use common::units::{shown_at, shown_between, told_apart, wrong_differences, wrong_totals, NAMES};
 use common::{candidates, legal::form_right, records_between, side_by_pages};
 use oracle::calls::{call, damage, start, Call, Plan};
 use oracle::layout::Header;
@@ -40,6 +41,8 @@ struct Met {
     ties: BTreeMap<&'static str, u32>,
     empty_net_changes: u32,
     net_changes: u32,
+    /// what units and units between show on memory that the audit passes, and the wrong ways that they tell apart
+    units: BTreeMap<&'static str, u32>,
 }
 
 impl Met {
@@ -59,6 +62,28 @@ impl Met {
     }
 }
 
+impl Met {
+    fn units(&mut self, store: &Store, t: u64, units: u64) {
+        if store.audit() {
+            let records = store.records();
+            self.note_units(shown_at(&records, t));
+            self.note_units(told_apart(units as i128, wrong_totals(&records, t)));
+        }
+    }
+
+    fn units_between(&mut self, store: &Store, a: u64, b: u64, between: i64) {
+        if store.audit() {
+            let records = store.records();
+            self.note_units(shown_between(&records, a, b));
+            self.note_units(told_apart(between as i128, wrong_differences(&records, a, b)));
+        }
+    }
+
+    fn note_units(&mut self, names: Vec<&'static str>) {
+        names.into_iter().for_each(|name| *self.units.entry(name).or_default() += 1);
+    }
+}
+
 fn name(call: &Call) -> &'static str {
     match call {
         Call::Fresh(..) => "fresh store",
@@ -70,6 +95,8 @@ fn name(call: &Call) -> &'static str {
         Call::Table(..) => "table",
         Call::View(_) => "view",
         Call::NetChange(..) => "net change",
+        Call::Units(_) => "units",
+        Call::UnitsBetween(..) => "units between",
         Call::Keep(_) => "keep",
         Call::Drop(_) => "drop",
         Call::Audit => "audit",
@@ -116,6 +143,10 @@ fn make(store: &mut Store, call: Call, met: &mut Met) -> Result<(), Refusal> {
                 met.net_changes += 1;
                 met.empty_net_changes += (entries == 0) as u32;
             })
+        }
+        Call::Units(t) => store.units(t).map(|units| met.units(store, t, units)),
+        Call::UnitsBetween(a, b) => {
+            store.units_between(a, b).map(|between| met.units_between(store, a, b, between))
         }
         Call::Keep(t) => store.keep(t).map(|()| {
             met.keeps.insert((store.capacity(), store.numbers.files));
@@ -183,6 +214,8 @@ fn every_call_ends_by_every_question() {
         Call::Table(0, 0),
         Call::View(0),
         Call::NetChange(0, 0, 0, 0),
+        Call::Units(0),
+        Call::UnitsBetween(0, 0),
         Call::Keep(0),
         Call::Drop(0),
     ];
@@ -235,11 +268,22 @@ fn sides_are_other_than_by_pages() {
     }
 }
 
+/// Stock that rose and fell, totals that agree though tables differ, totals above 2^32, and a store that adds up or
+/// subtracts in a wrong way is found out.
+#[test]
+fn units_are_varied() {
+    let met = lists();
+    assert_eq!(met.units.len(), NAMES, "{:?}", met.units);
+    assert!(met.units.values().all(|often| *often >= 20), "{:?}", met.units);
+}
+
 /// Every later call, on memory that question 1 passes and the audit denies.
 #[test]
 fn denied_memory_is_met() {
     let met = lists();
-    for later in ["insert", "delete", "update", "position", "table", "view", "net change", "keep", "drop"] {
+    let appends = ["insert", "delete", "update"];
+    let queries = ["position", "table", "view", "net change", "units", "units between"];
+    for later in appends.iter().chain(&queries).chain(&["keep", "drop"]) {
         assert!(met.denied[later] > 100, "{later}");
     }
     assert!(met.denied["audit"] > 100);

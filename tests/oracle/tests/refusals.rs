@@ -82,6 +82,8 @@ fn question_1_numbers() {
         refuses(&mut store, 1, |store| store.table(61, &mut []).map(|_| ()));
         refuses(&mut store, 1, |store| store.view(61).map(|_| ()));
         refuses(&mut store, 1, |store| store.net_change(61, 61, &mut [], &mut []).map(|_| ()));
+        refuses(&mut store, 1, |store| store.units(61).map(|_| ()));
+        refuses(&mut store, 1, |store| store.units_between(61, 61).map(|_| ()));
         refuses(&mut store, 1, |store| store.keep(61));
         refuses(&mut store, 1, |store| store.drop_file(61));
         assert!(!store.audit());
@@ -119,6 +121,8 @@ fn question_1_lengths() {
         let mut store = store.clone();
         shorten(&mut store.memory);
         refuses(&mut store, 1, |store| store.position(60).map(|_| ()));
+        refuses(&mut store, 1, |store| store.units(60).map(|_| ()));
+        refuses(&mut store, 1, |store| store.units_between(20, 60).map(|_| ()));
     }
     let mut store = store.clone();
     store.memory.log.truncate(10);
@@ -277,6 +281,27 @@ fn queries() {
     assert!(output.iter().chain(&workspace).all(|byte| *byte == STRANGE));
     assert!(store.table(60, &mut output[..32]).is_ok());
     assert!(store.net_change(60, 20, &mut output, &mut workspace).is_ok());
+}
+
+/// 12 by either time, and by neither.
+#[test]
+fn units() {
+    let mut store = by_hand();
+    for t in [61, u64::MAX] {
+        assert_eq!(refused(store.units(t)), 12);
+        assert_eq!(refused(store.units_between(t, 60)), 12);
+        assert_eq!(refused(store.units_between(60, t)), 12);
+        assert_eq!(refused(store.units_between(t, t)), 12);
+    }
+    assert!(store.units(60).is_ok() && store.units_between(60, 60).is_ok());
+    // a later request makes the time one that is answered
+    store.delete(61, 9).unwrap();
+    assert!(store.units(61).is_ok() && store.units_between(61, 60).is_ok());
+    let store = fresh(3, 2, 4);
+    assert!(store.units(0).is_ok() && store.units_between(0, 0).is_ok());
+    assert_eq!(refused(store.units(1)), 12);
+    assert_eq!(refused(store.units_between(1, 0)), 12);
+    assert_eq!(refused(store.units_between(0, 1)), 12);
 }
 
 #[test]

@@ -3,40 +3,15 @@
 
 mod common;
 
+use common::generated::{keep_some, opened, times};
 use common::{position, records_between, side_by_pages, table};
-use oracle::generate::{legal_log, Log};
+use oracle::generate::legal_log;
 use oracle::layout::{Record, Row};
-use oracle::limits::{MOST_FILES, ROW_LIMITS};
-use oracle::listing::LENT_INDEX;
 use oracle::outset::{Place, Side};
 use oracle::random::Random;
-use oracle::store::{Memory, Store, View};
-use oracle::table::{table_length, timeslice};
+use oracle::store::{Store, View};
+use oracle::table::timeslice;
 use std::collections::{BTreeMap, BTreeSet};
-
-fn opened(log: &Log) -> Store {
-    let area = table_length(log.header.row_limit);
-    let mut store = Store::over(Memory {
-        log: log.bytes(),
-        index: vec![0; LENT_INDEX],
-        table: vec![0; table_length(*ROW_LIMITS.end())],
-        catalogue: vec![Default::default(); MOST_FILES],
-        areas: vec![0; MOST_FILES * area],
-    });
-    store.open().unwrap();
-    store
-}
-
-/// So many times at a request or beside it, and one anywhere, none after the last.
-fn times(random: &mut Random, log: &Log, many: u64) -> BTreeSet<u64> {
-    let last = log.header.last;
-    let mut times = BTreeSet::from([random.from(0, last)]);
-    for _ in 0..many {
-        let at = log.records[random.place(log.records.len())].time;
-        times.insert(random.pick(&[at, at, at - 1, at.saturating_add(1)]).min(last));
-    }
-    times
-}
 
 /// The nearest held time at or before t, and the nearest at or after it.
 fn nearest(kept: &BTreeSet<u64>, last: u64, t: u64) -> [u64; 2] {
@@ -121,10 +96,7 @@ fn the_outset_used_has_fewest_requests_between() {
             continue;
         }
         let (mut store, records, last) = (opened(&log), &log.records, log.header.last);
-        let many = random.from(0, MOST_FILES as u64 - 1);
-        let mut kept = if random.percent(10) { BTreeSet::new() } else { times(&mut random, &log, many) };
-        kept.remove(&0);
-        kept.iter().for_each(|&t| store.keep(t).unwrap());
+        let kept = keep_some(&mut random, &mut store, &log);
         for t in times(&mut random, &log, 30) {
             let at = format!("case {case}, time {t}");
             let between = |held: u64| records_between(records, held, t);

@@ -32,8 +32,8 @@ enum-known-r c = search needs
 enum-told : tie.Need-enum-told Inv-loop μ-loop
 enum-told c = search needs
 
-finish-requires : tie.Need-finish-requires Inv-loop μ-loop
-finish-requires c κs = search needs
+list-units-requires : tie.Need-list-units-requires Inv-loop μ-loop
+list-units-requires c κs = search needs
 
 same-length : tie.Need-same-length Inv-loop μ-loop
 same-length c = search needs
@@ -93,8 +93,8 @@ loop-again c =
     let kept = listed .list-time .kept .1 .1 .1 .1 .1 in
     (kept .0 ∙ l .inv .0, kept .1 .0 ∙ l .inv .1, omega (arith, fits roomy, kept .1 .0, listed .list-time .ensures))
 
-finish-requires-2 : tie.Need-finish-requires-2 Inv-loop μ-loop
-finish-requires-2 c κs = search needs
+list-units-requires-2 : tie.Need-list-units-requires-2 Inv-loop μ-loop
+list-units-requires-2 c κs = search needs
 
 same-length-5 : tie.Need-same-length-5 Inv-loop μ-loop
 same-length-5 c = search needs
@@ -117,7 +117,7 @@ list-spec =
     record-of-requires
     enum-known-r
     enum-told
-    finish-requires
+    list-units-requires
     same-length
     same-length-2
     returns
@@ -132,7 +132,7 @@ list-spec =
     record-after-requires
     loop-less
     loop-again
-    finish-requires-2
+    list-units-requires-2
     same-length-5
     same-length-6
     returns-3)

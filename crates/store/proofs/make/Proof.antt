@@ -19,6 +19,8 @@ use Rattle.store.proofs.filed.Reads as filed-reads
 use Rattle.tables.proofs.position.Reads as position-reads
 use Rattle.tables.proofs.table.Reads as table-reads
 use Rattle.tables.proofs.view.Reads as view-reads
+use Rattle.units.proofs.at.Reads as at-reads
+use Rattle.units.proofs.between.Reads as between-reads
 
 enum-known-call : tie.Need-enum-known-call
 enum-known-call c = search needs
@@ -86,14 +88,32 @@ answered-requires-4 c κs = search needs
 enum-known-call-8 : tie.Need-enum-known-call-8
 enum-known-call-8 c = search needs
 
+at-requires : tie.Need-at-requires
+at-requires c κs = search needs
+
+answered-requires-5 : tie.Need-answered-requires-5
+answered-requires-5 c κs = search needs
+
+enum-known-call-9 : tie.Need-enum-known-call-9
+enum-known-call-9 c = search needs
+
+between-requires : tie.Need-between-requires
+between-requires c κs = search needs
+
+answered-requires-6 : tie.Need-answered-requires-6
+answered-requires-6 c κs = search needs
+
+enum-known-call-10 : tie.Need-enum-known-call-10
+enum-known-call-10 c = search needs
+
 keep-requires : tie.Need-keep-requires
 keep-requires c κs = search needs
 
 filed-requires : tie.Need-filed-requires
 filed-requires c κs = search needs
 
-enum-known-call-9 : tie.Need-enum-known-call-9
-enum-known-call-9 c = search needs
+enum-known-call-11 : tie.Need-enum-known-call-11
+enum-known-call-11 c = search needs
 
 drop-requires : tie.Need-drop-requires
 drop-requires c κs = search needs
@@ -107,8 +127,8 @@ enum-told c = search needs
 audit-requires : tie.Need-audit-requires
 audit-requires c κs = search needs
 
-answered-requires-5 : tie.Need-answered-requires-5
-answered-requires-5 c κs = search needs
+answered-requires-7 : tie.Need-answered-requires-7
+answered-requires-7 c κs = search needs
 
 same-length : tie.Need-same-length
 same-length c = search needs
@@ -289,10 +309,11 @@ same-length-31 c = search needs
 returns-8 : tie.Need-returns-8
 unfolding callOf saidOf OutputsKept
 returns-8 c catalogue e =
-    let q = c .before .before .before in
-    let g = c .before .before .before .before .before .before .before .before .before .call8 .given .1 in
+    let q = c .before in
+    let a = c .before .before .before .before .before .before .before .before .before .before .before .before .before .before .before .args in
+    let g = c .before .before .before .before .before .before .before .call8 .given .1 in
     record {
-      carried = rw (g, c .filed .ensures) (Carried.keep _ (q .keep .ensures catalogue e));
+      carried = rw (g, c .answered5 .ensures, written-same catalogue e) (Carried.units _ (q .at .ensures catalogue e));
       outputs = rw g (refl, refl);
     }
 
@@ -311,10 +332,11 @@ same-length-35 c = search needs
 returns-9 : tie.Need-returns-9
 unfolding callOf saidOf OutputsKept
 returns-9 c catalogue e =
-    let q = c .before .before .before in
-    let g = c .before .before .before .before .before .before .before .before .before .call9 .given .1 in
+    let q = c .before in
+    let a = c .before .before .before .before .before .before .before .before .before .before .before .before .before .before .before .args in
+    let g = c .before .before .before .before .before .before .before .call9 .given .1 in
     record {
-      carried = rw (g, c .filed2 .ensures) (Carried.drop _ (q .drop .ensures catalogue e));
+      carried = rw (g, c .answered6 .ensures, written-same catalogue e) (Carried.difference _ _ (q .between .ensures catalogue e));
       outputs = rw g (refl, refl);
     }
 
@@ -333,11 +355,55 @@ same-length-39 c = search needs
 returns-10 : tie.Need-returns-10
 unfolding callOf saidOf OutputsKept
 returns-10 c catalogue e =
+    let q = c .before .before .before in
+    let g = c .before .before .before .before .before .before .before .before .before .call10 .given .1 in
+    record {
+      carried = rw (g, c .filed .ensures) (Carried.keep _ (q .keep .ensures catalogue e));
+      outputs = rw g (refl, refl);
+    }
+
+same-length-40 : tie.Need-same-length-40
+same-length-40 c = search needs
+
+same-length-41 : tie.Need-same-length-41
+same-length-41 c = search needs
+
+same-length-42 : tie.Need-same-length-42
+same-length-42 c = search needs
+
+same-length-43 : tie.Need-same-length-43
+same-length-43 c = search needs
+
+returns-11 : tie.Need-returns-11
+unfolding callOf saidOf OutputsKept
+returns-11 c catalogue e =
+    let q = c .before .before .before in
+    let g = c .before .before .before .before .before .before .before .before .before .call11 .given .1 in
+    record {
+      carried = rw (g, c .filed2 .ensures) (Carried.drop _ (q .drop .ensures catalogue e));
+      outputs = rw g (refl, refl);
+    }
+
+same-length-44 : tie.Need-same-length-44
+same-length-44 c = search needs
+
+same-length-45 : tie.Need-same-length-45
+same-length-45 c = search needs
+
+same-length-46 : tie.Need-same-length-46
+same-length-46 c = search needs
+
+same-length-47 : tie.Need-same-length-47
+same-length-47 c = search needs
+
+returns-12 : tie.Need-returns-12
+unfolding callOf saidOf OutputsKept
+returns-12 c catalogue e =
     let q = c .before in
     let a = c .before .before .before .before .before .before .before .before .before .before .before .before .before .before .args in
     let g = c .before .before .before .before .before .before .enum-told .given .1 in
     record {
-      carried = rw (g, c .answered5 .ensures, written-same catalogue e) (Carried.audit (q .audit .ensures catalogue e));
+      carried = rw (g, c .answered7 .ensures, written-same catalogue e) (Carried.audit (q .audit .ensures catalogue e));
       outputs = rw g (refl, refl);
     }
 
@@ -367,14 +433,20 @@ make-spec =
     net-change-requires
     answered-requires-4
     enum-known-call-8
+    at-requires
+    answered-requires-5
+    enum-known-call-9
+    between-requires
+    answered-requires-6
+    enum-known-call-10
     keep-requires
     filed-requires
-    enum-known-call-9
+    enum-known-call-11
     drop-requires
     filed-requires-2
     enum-told
     audit-requires
-    answered-requires-5
+    answered-requires-7
     same-length
     same-length-2
     same-length-3
@@ -423,4 +495,14 @@ make-spec =
     same-length-37
     same-length-38
     same-length-39
-    returns-10)
+    returns-10
+    same-length-40
+    same-length-41
+    same-length-42
+    same-length-43
+    returns-11
+    same-length-44
+    same-length-45
+    same-length-46
+    same-length-47
+    returns-12)

@@ -46,7 +46,7 @@ impl Fastest {
     /// One line of the report: the times of both for one call, in this many nanoseconds, and their ratio.
     fn line(&self, what: &str, unit: &str, by: f64) {
         let (proved, plain) = (self.proved / by, self.plain / by);
-        println!("{what:<22} {proved:>9.1} {plain:>9.1} {unit}  {:.2}", proved / plain);
+        println!("{what:<24} {proved:>9.1} {plain:>9.1} {unit}  {:.2}", proved / plain);
     }
 }
 
@@ -79,7 +79,7 @@ fn main() {
     });
     let mut plain = Plain::fresh(ORDER, PAGE_SIZE, ROW_LIMIT, lengths);
 
-    println!("{:<22} {:>9} {:>9}", "", "proved", "plain");
+    println!("{:<24} {:>9} {:>9}", "", "proved", "plain");
     let append = best(|| append_proved(&mut proved, &requests), || append_plain(&mut plain, &requests));
     same(&proved, &plain);
     append.line("append, a record", "ns", MOST_RECORDS as f64);
@@ -127,7 +127,8 @@ fn same(proved: &Store, plain: &Plain) {
     assert!(proved.memory.areas == plain.areas);
 }
 
-/// Table, net change and audit, with as many count files as are kept.
+/// Table, units, net change and audit, with as many count files as are kept. Units stand beside the tables of the same
+/// times: they must not cost more.
 fn queries(proved: &Store, plain: &Plain, asked: &[u64], files: &str) {
     let area = table_length(ROW_LIMIT);
     let [left, right] = &mut [0, 0].map(|fill| vec![fill; 3 * area]);
@@ -144,6 +145,7 @@ fn queries(proved: &Store, plain: &Plain, asked: &[u64], files: &str) {
     table.line(&format!("table, {files}"), "µs", 1e3 * asked.len() as f64);
 
     let pairs: Vec<[u64; 2]> = asked.windows(2).map(|pair| [pair[0], pair[1]]).collect();
+    units(proved, plain, asked, &pairs, files);
     for &[a, b] in &pairs {
         let entries = proved.net_change(a, b, left, work).unwrap() as usize;
         assert_eq!(entries, plain.net_change(a, b, right, other_work));
@@ -158,6 +160,23 @@ fn queries(proved: &Store, plain: &Plain, asked: &[u64], files: &str) {
     assert!(proved.audit() && plain.audit());
     let audit = best(|| proved.audit(), || plain.audit());
     audit.line(&format!("audit, {files}"), "µs", 1e3);
+}
+
+/// Units at these times, and between these pairs of times.
+fn units(proved: &Store, plain: &Plain, asked: &[u64], pairs: &[[u64; 2]], files: &str) {
+    assert!(asked.iter().all(|&t| proved.units(t).unwrap() == plain.units(t)));
+    let units = best(
+        || asked.iter().map(|&t| proved.units(t).unwrap()).sum::<u64>(),
+        || asked.iter().map(|&t| plain.units(t)).sum::<u64>(),
+    );
+    units.line(&format!("units, {files}"), "µs", 1e3 * asked.len() as f64);
+
+    assert!(pairs.iter().all(|&[a, b]| proved.units_between(a, b).unwrap() == plain.units_between(a, b)));
+    let between = best(
+        || pairs.iter().map(|&[a, b]| proved.units_between(a, b).unwrap()).sum::<i64>(),
+        || pairs.iter().map(|&[a, b]| plain.units_between(a, b)).sum::<i64>(),
+    );
+    between.line(&format!("units between, {files}"), "µs", 1e3 * pairs.len() as f64);
 }
 
 /// Keeps 16 files in any order, and drops them in another; they are kept again at the end.

@@ -32,6 +32,8 @@ enum Answer {
     Table(Result<TableAnswer, Refusal>, Vec<u8>),
     View(Result<View, Refusal>),
     NetChange(Result<u32, Refusal>, Vec<u8>, Vec<u8>),
+    Units(Result<u64, Refusal>),
+    UnitsBetween(Result<i64, Refusal>),
     Audit(bool),
     None,
 }
@@ -59,6 +61,8 @@ macro_rules! answer {
                 let result = $store.net_change(a, b, output.bytes(), workspace.bytes());
                 Answer::NetChange(result, output.back(), workspace.back())
             }
+            Call::Units(t) => Answer::Units($store.units(t)),
+            Call::UnitsBetween(a, b) => Answer::UnitsBetween($store.units_between(a, b)),
             Call::Keep(t) => Answer::Change($store.keep(t)),
             Call::Drop(t) => Answer::Change($store.drop_file(t)),
             Call::Audit => Answer::Audit($store.audit()),
@@ -75,6 +79,8 @@ impl Answer {
             Answer::Table(result, _) => result.err(),
             Answer::View(result) => result.err(),
             Answer::NetChange(result, ..) => result.err(),
+            Answer::Units(result) => result.err(),
+            Answer::UnitsBetween(result) => result.err(),
             Answer::Audit(_) | Answer::None => None,
         }
     }

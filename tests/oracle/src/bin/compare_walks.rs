@@ -1,5 +1,5 @@
-//! Compares the tables of long walks, forwards and backwards, with those of the plain store: on articles of any number, and
-//! on articles that share one slot of the walk's hints, which then lead nowhere.
+//! Compares the tables of long walks, forwards and backwards, and their units with those of the plain store: on articles of
+//! any number, and on articles that share one slot of the walk's hints, which then lead nowhere.
 
 use oracle::log::log_length;
 use oracle::plain::Plain;
@@ -25,7 +25,7 @@ fn main() {
             tables += compare(&mut random, row_limit, pool);
         }
     }
-    println!("{tables} tables of long walks agree");
+    println!("{tables} tables of long walks and their units agree");
 }
 
 /// One log, its tables at random times with no count file and with some: how many were compared.
@@ -73,6 +73,10 @@ fn compare(random: &mut Random, row_limit: u32, pool: Option<&[u32]>) -> usize {
             let rows = proved.table(t, left).unwrap().rows as usize;
             assert_eq!(rows, plain.table(t, right), "limit {row_limit}, time {t}");
             assert!(left == right, "limit {row_limit}, time {t}");
+            assert_eq!(proved.units(t).unwrap(), plain.units(t), "limit {row_limit}, time {t}");
+            let other = random.from(0, last);
+            let between = proved.units_between(t, other).unwrap();
+            assert_eq!(between, plain.units_between(t, other), "limit {row_limit}, from {t} to {other}");
         }
         if k < FILES as u64 {
             let t = last * (k + 1) / (FILES as u64 + 1);

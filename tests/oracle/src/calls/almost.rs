@@ -80,7 +80,7 @@ pub fn wrong_file(random: &mut Random, Store { numbers, memory }: &mut Store) {
     }
     let i = random.place(files);
     let next = (i + 1) % files;
-    match random.from(0, 7) {
+    match random.from(0, 8) {
         // one file twice
         0 => {
             catalogue[next] = catalogue[i];
@@ -108,9 +108,10 @@ pub fn wrong_file(random: &mut Random, Store { numbers, memory }: &mut Store) {
             catalogue[i].time =
                 random.pick(&[catalogue[i].time.wrapping_sub(1), catalogue[i].time.wrapping_add(1), last])
         }
-        // two rows exchanged
-        _ if length >= 2 * ROW_BYTES => {
-            (0..ROW_BYTES).for_each(|k| areas.swap(i * length + k, i * length + ROW_BYTES + k))
+        // two rows exchanged, or their counts alone: the total stays
+        which if length >= 2 * ROW_BYTES => {
+            let from = if which == 7 { 0 } else { 4 };
+            (from..ROW_BYTES).for_each(|k| areas.swap(i * length + k, i * length + ROW_BYTES + k))
         }
         _ => {}
     }

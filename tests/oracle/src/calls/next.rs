@@ -32,14 +32,16 @@ pub fn call(random: &mut Random, plan: &Plan, store: &Store) -> Call {
     }
     let length = table_length(row_limit.min(1024));
     match random.from(0, 99) {
-        0..=14 => Call::Position(t),
-        15..=39 => Call::Table(t, near(random, length)),
-        40..=59 => Call::View(t),
-        60..=82 => {
+        0..=8 => Call::Position(t),
+        9..=27 => Call::Table(t, near(random, length)),
+        28..=45 => Call::View(t),
+        46..=61 => {
             let (output, workspace) = (near(random, 3 * length), near(random, 2 * length));
             Call::NetChange(t, time(random, store), output, workspace)
         }
-        83..=93 => Call::Audit,
+        62..=69 => Call::Units(t),
+        70..=84 => Call::UnitsBetween(t, time(random, store)),
+        85..=93 => Call::Audit,
         94..=97 => Call::Open,
         _ => {
             let (order, page_size, row_limit) = settings(random);
@@ -50,7 +52,7 @@ pub fn call(random: &mut Random, plan: &Plan, store: &Store) -> Call {
 
 /// An insertion, a deletion or an update at this time.
 fn append(random: &mut Random, plan: &Plan, store: &Store, time: u64) -> Call {
-    let count = random.next() as u32;
+    let count = random.from(0, plan.most as u64) as u32;
     match random.from(0, 99) {
         0..=53 => Call::Insert(time, article(random, plan, store, 20), count),
         54..=73 => Call::Delete(time, article(random, plan, store, 85)),

@@ -102,7 +102,8 @@ pub fn last_records(order: u16, page_size: u16, left: u32) -> (Memory, Vec<Call>
     for t in 65_600..65_602 {
         calls.extend([Call::Update(t, 7, 1), Call::Insert(t + 10, 8, 2), Call::Delete(t + 20, 8)]);
         calls.extend([Call::Position(t), Call::Table(t, 16), Call::Keep(t), Call::Keep(t / 2)]);
-        calls.extend([Call::View(t / 2 + 1), Call::NetChange(t / 2, t, 48, 32), Call::Audit, Call::Drop(t)]);
+        calls.extend([Call::View(t / 2 + 1), Call::NetChange(t / 2, t, 48, 32), Call::Units(t / 2)]);
+        calls.extend([Call::Units(t), Call::UnitsBetween(t, t / 2 + 1), Call::Audit, Call::Drop(t)]);
     }
     (memory, calls)
 }

@@ -1,7 +1,7 @@
 //! What the calls answer in C, as Rust has it. A refused call has zeros beside the question; anything that no
 //! call may answer stops the program.
 
-use super::c::{YkChange, YkNetChange, YkPosition, YkTable, YkView};
+use super::c::{YkChange, YkNetChange, YkPosition, YkTable, YkUnits, YkUnitsBetween, YkView};
 use crate::outset::{Place, Side};
 use crate::position::Position;
 use crate::store::{Refusal, TableAnswer, View};
@@ -52,6 +52,22 @@ pub fn net_change(answer: YkNetChange) -> Result<u32, Refusal> {
     match answer {
         YkNetChange { question: 0, entries } => Ok(entries),
         YkNetChange { question: question @ 1..=16, entries: 0 } => refused(question),
+        other => panic!("{other:?} is no answer"),
+    }
+}
+
+pub fn units(answer: YkUnits) -> Result<u64, Refusal> {
+    match answer {
+        YkUnits { question: 0, units } => Ok(units),
+        YkUnits { question: question @ 1..=16, units: 0 } => refused(question),
+        other => panic!("{other:?} is no answer"),
+    }
+}
+
+pub fn units_between(answer: YkUnitsBetween) -> Result<i64, Refusal> {
+    match answer {
+        YkUnitsBetween { question: 0, units } => Ok(units),
+        YkUnitsBetween { question: question @ 1..=16, units: 0 } => refused(question),
         other => panic!("{other:?} is no answer"),
     }
 }

@@ -48,6 +48,20 @@ pub struct YkNetChange {
     pub entries: u32,
 }
 
+#[repr(C)]
+#[derive(Debug)]
+pub struct YkUnits {
+    pub question: u8,
+    pub units: u64,
+}
+
+#[repr(C)]
+#[derive(Debug)]
+pub struct YkUnitsBetween {
+    pub question: u8,
+    pub units: i64,
+}
+
 // one region to a line, its length beside it
 #[rustfmt::skip]
 extern "C" {
@@ -139,6 +153,26 @@ extern "C" {
         out: *mut u8, out_length: usize,
         work: *mut u8, work_length: usize,
     ) -> YkNetChange;
+
+    pub fn yk_units(
+        numbers: Numbers,
+        log: *const u8, log_length: usize,
+        index: *const u64, index_length: usize,
+        table: *const u8, table_length: usize,
+        entries: *const Entry, entries_length: usize,
+        areas: *const u8, areas_length: usize,
+        time: u64,
+    ) -> YkUnits;
+
+    pub fn yk_units_between(
+        numbers: Numbers,
+        log: *const u8, log_length: usize,
+        index: *const u64, index_length: usize,
+        table: *const u8, table_length: usize,
+        entries: *const Entry, entries_length: usize,
+        areas: *const u8, areas_length: usize,
+        a: u64, b: u64,
+    ) -> YkUnitsBetween;
 
     pub fn yk_keep(
         numbers: Numbers,

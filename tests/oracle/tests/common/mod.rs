@@ -1,7 +1,9 @@
 //! Stores and answers that several tests use.
 #![allow(dead_code)]
 
+pub mod generated;
 pub mod legal;
+pub mod units;
 
 use oracle::layout::{Header, Record, Row};
 use oracle::net_change::output_length;

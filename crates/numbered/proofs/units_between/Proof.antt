@@ -1,0 +1,18 @@
+-- `numbered::units_between` meets its contract. Assumes nothing.
+use borrow.Author.Needs.{needs}
+use Rattle.numbered.proofs.units_between.Statement.{statement}
+use Rattle.numbered.proofs.units_between.Tie as tie
+use Rattle.numbered.proofs.answer.difference_out.Reads as difference-out-reads
+use Rattle.units.proofs.between.Reads as between-reads
+
+between-requires : tie.Need-between-requires
+between-requires c κs = search needs
+
+difference-out-requires : tie.Need-difference-out-requires
+difference-out-requires c κs = search needs
+
+returns : tie.Need-returns
+returns c catalogue e = record { answer = c .before .between .result; is = c .difference-out .ensures; kept = c .before .between .ensures catalogue e }
+
+pub units-between-spec : {M : Type 1} → statement M
+units-between-spec = tie.close (tie.spec between-requires difference-out-requires returns)

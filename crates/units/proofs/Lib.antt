@@ -1,0 +1,4 @@
+pub mod CountLaws
+pub mod TotalLaws
+pub mod Differences
+pub mod Answers
