@@ -68,19 +68,18 @@ module _ (st : State) (o : InOrder st) (t : ℕ) where
       record {
         said = tableSaid st t;
         answered = table-answered st t out (o .audited) h l;
-        adds = rw none (sum ∙ sym (units-agree st (o .audited) t .as-shown));
+        adds = rw none (sum ∙ sym (units-agree st (o .audited) .as-shown t));
       }
 
   pub units-tell : t ≤ st .numbers .last → UnitsTell st t (unitsOf st t)
-  unfolding unitsAt
   units-tell h =
-      let agree = units-agree st (o .audited) t in
+      let agree = units-agree st (o .audited) in
       record {
         said = unitsAt st t;
         answered = units-answered st (o .audited) t h;
-        as-logged = omega (arith, agree .never-below);
+        as-logged = agree .left-over t;
         as-shown = adds-up h;
-        small = rw (agree .as-shown) few-units;
+        small = rw (agree .as-shown t) few-units;
       }
 
 -- ---- between two times

@@ -3,7 +3,7 @@ use Prim.Native.Nat.{ℕ}
 use mathlib.Core.Path.{_≡_, refl}
 use mathlib.Core.List.{List, [], _∷_}
 use Rattle.model.specs.declared.Side.the-variants.{Later}
-use Rattle.lines.specs.Text.{lastDigits, numeral, sideText, lineText, unitsText, refusedText}
+use Rattle.lines.specs.Text.{lastDigits, numeral, sideText, lineText, namedText, unitsText, refusedText}
 
 -- `40 2 L 1`
 line-of-40 : lineText 40 2 Later 1 ≡ 52 ∷ 48 ∷ 32 ∷ 50 ∷ 32 ∷ 76 ∷ 32 ∷ 49 ∷ 10 ∷ []
@@ -12,12 +12,12 @@ line-of-40 = refl
 
 -- `units 50`
 units-of-50 : unitsText 50 ≡ 117 ∷ 110 ∷ 105 ∷ 116 ∷ 115 ∷ 32 ∷ 53 ∷ 48 ∷ 10 ∷ []
-unfolding unitsText numeral lastDigits
+unfolding namedText unitsText numeral lastDigits
 units-of-50 = refl
 
 -- `refused 17`
 refused-by-17 : refusedText 17 ≡ 114 ∷ 101 ∷ 102 ∷ 117 ∷ 115 ∷ 101 ∷ 100 ∷ 32 ∷ 49 ∷ 55 ∷ 10 ∷ []
-unfolding refusedText numeral lastDigits
+unfolding namedText refusedText numeral lastDigits
 refused-by-17 = refl
 
 numeral-of-0 : numeral 0 ≡ 48 ∷ []

@@ -25,10 +25,14 @@ sideText Later = 32 ∷ 76 ∷ 32 ∷ []
 unfoldable pub lineText : ℕ → ℕ → Side → ℕ → List ℕ
 lineText time page side rows = numeral time ++ ((32 ∷ []) ++ (numeral page ++ (sideText side ++ (numeral rows ++ (10 ∷ [])))))
 
+-- a word with its space, a number and the line's end
+unfoldable pub namedText : List ℕ → ℕ → List ℕ
+namedText word k = word ++ (numeral k ++ (10 ∷ []))
+
 -- "a last line, `units` and the total"
 unfoldable pub unitsText : ℕ → List ℕ
-unitsText k = (117 ∷ 110 ∷ 105 ∷ 116 ∷ 115 ∷ 32 ∷ []) ++ (numeral k ++ (10 ∷ []))
+unitsText k = namedText (117 ∷ 110 ∷ 105 ∷ 116 ∷ 115 ∷ 32 ∷ []) k
 
--- `refused`, a space, the number and the line's end
+-- `refused` and the number
 unfoldable pub refusedText : ℕ → List ℕ
-refusedText k = (114 ∷ 101 ∷ 102 ∷ 117 ∷ 115 ∷ 101 ∷ 100 ∷ 32 ∷ []) ++ (numeral k ++ (10 ∷ []))
+refusedText k = namedText (114 ∷ 101 ∷ 102 ∷ 117 ∷ 115 ∷ 101 ∷ 100 ∷ 32 ∷ []) k

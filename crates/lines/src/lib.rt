@@ -3,7 +3,7 @@
 ghost use mathlib.Core.Path.{_≡_};
 ghost use Prim.Native.Nat.{_+_, _≤_};
 ghost use lib.ListN.{length};
-ghost use Rattle.lines.specs.Text.{numeral, sideText, lineText, unitsText, refusedText};
+ghost use Rattle.lines.specs.Text.{numeral, sideText, lineText, namedText, unitsText, refusedText};
 ghost use Rattle.lines.specs.Gathered.{Gathered};
 use model::Side;
 
@@ -54,15 +54,24 @@ pub fn put_line(buffer: &mut [u8], at: usize, time: u64, page: u32, side: Side, 
     gather(buffer, counted, b"\n")
 }
 
+// A line of one word, with its space, and a number.
+fn put_named(buffer: &mut [u8], at: usize, word: &[u8], n: u64) -> usize
+    requires { ⌜ at + length (now word) + 21 ≤ length (now buffer) ⌝ }
+    ensures { λ r. ⌜ Gathered (now (buffer .entry)) at (namedText (now (word .entry)) n) (now (buffer .exit)) r ⌝ }
+    ensures short { λ r. ⌜ r ≤ at + length (now (word .entry)) + 21 ⌝ }
+{
+    let named = gather(buffer, at, word);
+    let numbered = put_number(buffer, named, n);
+    gather(buffer, numbered, b"\n")
+}
+
 // The last line: the units on hand.
 pub fn put_units(buffer: &mut [u8], at: usize, units: u64) -> usize
     requires { ⌜ at + 27 ≤ length (now buffer) ⌝ }
     ensures { λ r. ⌜ Gathered (now (buffer .entry)) at (unitsText units) (now (buffer .exit)) r ⌝ }
     ensures short { λ r. ⌜ r ≤ at + 27 ⌝ }
 {
-    let named = gather(buffer, at, b"units ");
-    let totalled = put_number(buffer, named, units);
-    gather(buffer, totalled, b"\n")
+    put_named(buffer, at, b"units ", units)
 }
 
 // What is printed of an opening that is refused by question k.
@@ -71,7 +80,5 @@ pub fn put_refused(buffer: &mut [u8], at: usize, k: u8) -> usize
     ensures { λ r. ⌜ Gathered (now (buffer .entry)) at (refusedText k) (now (buffer .exit)) r ⌝ }
     ensures short { λ r. ⌜ r ≤ at + 29 ⌝ }
 {
-    let named = gather(buffer, at, b"refused ");
-    let numbered = put_number(buffer, named, k as u64);
-    gather(buffer, numbered, b"\n")
+    put_named(buffer, at, b"refused ", k as u64)
 }
