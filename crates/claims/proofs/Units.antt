@@ -2,23 +2,21 @@
 -- inserted less the counts deleted and what the table call's output adds up to, and a difference is second less first.
 -- Assumes nothing.
 use Prim.Native.Nat.{ℕ, _+_, _*_, _-_, _^_, _≤_, _<_}
-use mathlib.Core.Path.{_≡_, refl, sym, ap, _∙_}
+use mathlib.Core.Path.{_≡_, sym, _∙_}
 use mathlib.Core.List.{List, [], _∷_, _++_, append-assoc}
 use native.Mathlib.Omega.{arith}
 use lib.ListN.{length, drop}
 use lib.Dec.{leb}
-use lib.IntN.{pos, _-ℤ_}
 use borrow.Author.Tests.{le-leb}
 use Rattle.codec.specs.Parts.{zeros, put}
-use Rattle.codec.proofs.Numbers.{are-bytes-drop}
 use Rattle.model.specs.Answers.{answers, question, firstNo}
-use Rattle.model.specs.Rows.{rowsBytes, tableBytes}
-use Rattle.model.specs.Memory.{State, logOf, sound}
+use Rattle.model.specs.Rows.{tableBytes}
+use Rattle.model.specs.Memory.{State, sound}
 use Rattle.model.specs.Queries.{timeQuestions, rowsAt, tableSaid, tableOf}
 use Rattle.model.specs.Audit.{Audited}
 use Rattle.model.specs.Units.{unitsAt, difference, unitsOf, differenceQuestions, differenceOf, sumOf, sumIn, unitsShown, AddsUp, UnitsTell, DifferenceTells}
 use Rattle.model.specs.Facts.{InOrder}
-use Rattle.model.specs.Demands.{left, UnitsHold, UnitsTold}
+use Rattle.model.specs.Demands.{left, UnitsTold}
 use Rattle.model.proofs.AuditLaws.{audited-facts, audited-sound}
 use Rattle.model.proofs.UnitsLaws.{units-agree, sum-below}
 use Rattle.model.proofs.SignedLaws.{less-rose, less-fell, less-none}

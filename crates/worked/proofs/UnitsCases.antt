@@ -2,7 +2,7 @@
 -- tables do not; an update; counts past 32 bits; a store emptied again. Assumes nothing.
 use Prim.Native.Nat.{ℕ}
 use mathlib.Core.Path.{_≡_, refl}
-use mathlib.Core.List.{List, [], _∷_, map}
+use mathlib.Core.List.{[], _∷_, map}
 use mathlib.Core.Bool.{false}
 use lib.ListN.{replicate}
 use lib.IntN.{ℤ, pos, negsuc}
