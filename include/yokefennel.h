@@ -152,7 +152,7 @@ typedef struct yk_net_change_answer {
 
 typedef struct yk_units_answer {
     uint8_t question; /* an enum yk_question */
-    uint64_t units;   /* units on hand, below 2^42; 0 where refused */
+    uint64_t units;   /* units on hand, below 2^42 where yk_audit says 1; 0 where refused */
 } yk_units_answer;
 
 typedef struct yk_units_between_answer {

@@ -81,7 +81,7 @@ pub struct NetChangeAnswer {
 pub struct UnitsAnswer {
     /// 01's number of the question answered no, or 0
     pub question: u8,
-    /// units on hand, below 2^42; 0 where refused
+    /// units on hand, below 2^42 where the audit passes; 0 where refused
     pub units: u64,
 }
 

@@ -390,7 +390,7 @@ impl<'a> Store<'a> {
     }
 
     /// The units on hand at a time: the counts of its table added up, which are the counts inserted up to then
-    /// less the counts deleted. They are below 2^42.
+    /// less the counts deleted. Where the audit passes they are below 2^42.
     ///
     /// Refuses by 1, 12.
     ///

@@ -14,12 +14,12 @@ use Rattle.model.specs.Rows.{tableBytes}
 use Rattle.model.specs.Memory.{State, sound}
 use Rattle.model.specs.Queries.{timeQuestions, rowsAt, tableSaid, tableOf}
 use Rattle.model.specs.Audit.{Audited}
-use Rattle.model.specs.Units.{unitsAt, difference, unitsOf, differenceQuestions, differenceOf, sumOf, sumIn, unitsShown, AddsUp, UnitsTell, DifferenceTells}
+use Rattle.model.specs.Units.{unitsAt, difference, unitsOf, differenceQuestions, differenceOf, sumOf, sumIn, AddsUp, UnitsTell, DifferenceTells}
 use Rattle.model.specs.Facts.{InOrder}
 use Rattle.model.specs.Demands.{left, UnitsTold}
 use Rattle.model.proofs.AuditLaws.{audited-facts, audited-sound}
 use Rattle.model.proofs.UnitsLaws.{units-agree, sum-below}
-use Rattle.model.proofs.SignedLaws.{less-rose, less-fell, less-none}
+use Rattle.model.proofs.SignedLaws.{less-rose, less-fell, less-none, less-within}
 use Rattle.rows.proofs.Sums.{sum-in-rows}
 use Rattle.claims.proofs.Regions.{answered, none-asked}
 use Rattle.claims.proofs.FactLaws.{rows-few, rows-small}
@@ -50,10 +50,10 @@ module _ (st : State) (a : Audited st) where
 
 module _ (st : State) (o : InOrder st) (t : ℕ) where
   -- as many rows as there can be, of the largest count
-  few-units : unitsShown st t < 2 ^ 42
+  few-units : unitsAt st t < 2 ^ 42
   few-units =
       let f = audited-facts st (o .audited) in
-      omega (arith, sum-below (2 ^ 32) (rowsAt st t) (rows-small st (o .lendable) t), rows-few st f t, f .limits .limit-high)
+      omega (arith, units-agree st (o .audited) .as-shown t, sum-below (2 ^ 32) (rowsAt st t) (rows-small st (o .lendable) t), rows-few st f t, f .limits .limit-high)
 
   adds-up : t ≤ st .numbers .last → (out : List ℕ) → 8 * st .numbers .limit ≤ length out → AddsUp (tableOf st t out) (unitsAt st t)
   unfolding tableOf tableBytes
@@ -77,7 +77,7 @@ module _ (st : State) (o : InOrder st) (t : ℕ) where
         answered = units-answered st (o .audited) t h;
         as-logged = agree .left-over t;
         as-shown = adds-up h;
-        small = rw (agree .as-shown t) few-units;
+        small = few-units;
       }
 
 -- ---- between two times
@@ -97,6 +97,7 @@ difference-tells st o a b h g =
       rose = less-rose second first;
       fell = less-fell second first;
       agree = less-none second first;
+      small = less-within second first (2 ^ 42) (few-units st o b) (few-units st o a) .1;
     }
 
 -- ---- the theorem

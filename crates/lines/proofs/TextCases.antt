@@ -1,4 +1,5 @@
--- The texts computed: 01's line for time 40, its last line (02, wish 1), a refusal by question 17, the largest number of 64 bits and 0. Assumes nothing.
+-- The texts computed: 01's line for time 40, its last line (02, wish 1), a refusal by question 17, the largest number of 64 bits
+-- and 0. Assumes nothing.
 use Prim.Native.Nat.{ℕ}
 use mathlib.Core.Path.{_≡_, refl}
 use mathlib.Core.List.{List, [], _∷_}

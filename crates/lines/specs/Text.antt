@@ -1,5 +1,5 @@
--- The text of the listing (01, "One log by hand"; 02, wish 1), as ASCII codes. `numeral`, `lineText`, `unitsText` and
--- `refusedText` are what contracts cite; the rest serves them. Assumes nothing.
+-- The text of the listing (01, "One log by hand"; 02, wish 1), as ASCII codes. `numeral`, `lineText`, `namedText`,
+-- `unitsText` and `refusedText` are what contracts cite; the rest serves them. Assumes nothing.
 use Prim.Native.Nat.{ℕ, zero, suc, _+_, _/_, _%_}
 use mathlib.Core.Bool.{cond}
 use mathlib.Core.List.{List, [], _∷_, _++_}

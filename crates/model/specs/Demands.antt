@@ -198,10 +198,12 @@ PositionsTell = AfterEveryList (λ st. (t : ℕ) → t ≤ st .numbers .last →
 
 -- ---- units (02, wish 1)
 
+-- of every time up to the last, and of every two of them
 pub record UnitsHold (st : State) : Type 0 where
   pub totals : (t : ℕ) → t ≤ st .numbers .last → UnitsTell st t (unitsOf st t)
   pub differences : (a b : ℕ) → a ≤ st .numbers .last → b ≤ st .numbers .last → DifferenceTells st a b (differenceOf st a b)
 
+-- after every list of calls
 abbrev pub UnitsTold : Type 0
 UnitsTold = AfterEveryList UnitsHold
 

@@ -9,6 +9,7 @@ use Rattle.codec.proofs.Numbers.{number-append-right}
 use Rattle.model.specs.Rows.{Row, rowBytes, rowsBytes}
 use Rattle.model.specs.Small.{RowsBelow, Small}
 use Rattle.model.specs.Units.{sumOf, sumIn}
+use Rattle.rows.specs.Table.{countAt}
 use Rattle.rows.proofs.TableBytes.{length-row-bytes, row-count}
 
 -- a row in front
@@ -25,3 +26,8 @@ unfolding RowsBelow rowsBytes sumIn sumOf
 sum-in-rows [] rest s = refl
 sum-in-rows (x ∷ xs) rest s =
     rw append-assoc (sum-in-front x (rowsBytes xs ++ rest) (length xs) (s .0 .1) ∙ ap (λ n. x .count + n) (sum-in-rows xs rest (s .1)))
+
+-- one row more
+pub sum-next : (rows : List ℕ) (i : ℕ) → sumIn rows (i + 1) ≡ sumIn rows i + countAt rows i
+unfolding sumIn
+sum-next rows i = let n : i + 1 ≡ suc i = omega arith in rw n

@@ -1,12 +1,12 @@
--- Units on hand (02, wish 1), computed on the calls' definitions: 01's log time by time, in both ways; totals that agree though the
--- tables do not; an update; counts past 32 bits; a store emptied again. Assumes nothing.
+-- Units on hand (02, wish 1), computed on the calls' definitions: 01's log time by time, in both ways, and an empty log; totals
+-- that agree though the tables do not; an update; counts past 32 bits; a store emptied again. Assumes nothing.
 use Prim.Native.Nat.{ℕ}
 use mathlib.Core.Path.{_≡_, refl}
 use mathlib.Core.List.{[], _∷_, map}
 use mathlib.Core.Bool.{false}
 use lib.ListN.{replicate}
 use lib.IntN.{ℤ, pos, negsuc}
-use Rattle.model.specs.Answers.{Outcome, answers}
+use Rattle.model.specs.Answers.{Outcome, answers, refuses}
 use Rattle.model.specs.Rows.{sameRows}
 use Rattle.model.specs.Memory.{State}
 use Rattle.model.specs.Starts.{freshOf}
@@ -25,6 +25,18 @@ by-hand : map (unitsOf worked) (0 ∷ 9 ∷ 10 ∷ 20 ∷ 30 ∷ 40 ∷ 45 ∷ 5
     ≡ units 0 ∷ units 0 ∷ units 50 ∷ units 62 ∷ units 56 ∷ units 44 ∷ units 44 ∷ units 49 ∷ units 50 ∷ []
 unfolding computing
 by-hand = refl
+
+-- "0 for an empty one"
+abbrev none : State
+none = freshOf 2 2 3 (record { log = replicate 24 7; index = []; table = replicate 24 7; catalogue = []; areas = [] }) .state
+
+empty-log : (unitsOf none 0 ∷ unitsOf none 1 ∷ []) ≡ units 0 ∷ refuses 12 ∷ []
+unfolding computing
+empty-log = refl
+
+empty-difference : differenceOf none 0 0 ≡ answers (pos 0)
+unfolding computing
+empty-difference = refl
 
 -- inserted less deleted: the update at 30 takes 50 away and adds 44, that at 60 takes 5 and adds 6
 inserted-by-hand : (map (insertedUpTo worked) (20 ∷ 30 ∷ 45 ∷ 60 ∷ []) ∷ map (deletedUpTo worked) (20 ∷ 30 ∷ 45 ∷ 60 ∷ []) ∷ [])

@@ -42,7 +42,7 @@ struct Met {
     empty_net_changes: u32,
     net_changes: u32,
     /// what units and units between show on memory that the audit passes, and the wrong ways that they tell apart
-    units: BTreeMap<&'static str, u32>,
+    units: BTreeMap<(&'static str, &'static str), u32>,
 }
 
 impl Met {
@@ -66,21 +66,21 @@ impl Met {
     fn units(&mut self, store: &Store, t: u64, units: u64) {
         if store.audit() {
             let records = store.records();
-            self.note_units(shown_at(&records, t));
-            self.note_units(told_apart(units as i128, wrong_totals(&records, t)));
+            self.note_units("at", shown_at(&records, t));
+            self.note_units("at", told_apart(units as i128, wrong_totals(&records, t)));
         }
     }
 
     fn units_between(&mut self, store: &Store, a: u64, b: u64, between: i64) {
         if store.audit() {
             let records = store.records();
-            self.note_units(shown_between(&records, a, b));
-            self.note_units(told_apart(between as i128, wrong_differences(&records, a, b)));
+            self.note_units("between", shown_between(&records, a, b));
+            self.note_units("between", told_apart(between as i128, wrong_differences(&records, a, b)));
         }
     }
 
-    fn note_units(&mut self, names: Vec<&'static str>) {
-        names.into_iter().for_each(|name| *self.units.entry(name).or_default() += 1);
+    fn note_units(&mut self, asked: &'static str, names: Vec<&'static str>) {
+        names.into_iter().for_each(|name| *self.units.entry((asked, name)).or_default() += 1);
     }
 }
 

@@ -34,7 +34,7 @@ fn agreeing(random: &mut Random, records: &[Record]) -> Option<[u64; 2]> {
 
 #[test]
 fn units_are_those_of_the_log_and_of_the_rows() {
-    let mut met: BTreeMap<&'static str, u32> = BTreeMap::new();
+    let mut met: BTreeMap<(&'static str, &'static str), u32> = BTreeMap::new();
     for case in 0..500 {
         let mut random = Random::for_case(17, case);
         let log = legal_log(&mut random);
@@ -51,8 +51,8 @@ fn units_are_those_of_the_log_and_of_the_rows() {
             let units = store.units(t).unwrap() as i128;
             assert_eq!(units, on_hand(records, t), "{at}");
             assert_eq!(units, rows_added_up(&store, t), "{at}");
-            shown.extend(shown_at(records, t));
-            shown.extend(told_apart(units, wrong_totals(records, t)));
+            let told = told_apart(units, wrong_totals(records, t));
+            shown.extend(shown_at(records, t).into_iter().chain(told).map(|name| ("at", name)));
         }
         let mut pairs: Vec<[u64; 2]> = (0..12).map(|_| [random.pick(&asked), random.pick(&asked)]).collect();
         pairs.extend((0..2).filter_map(|_| agreeing(&mut random, records)));
@@ -62,8 +62,8 @@ fn units_are_those_of_the_log_and_of_the_rows() {
             assert_eq!(between as i128, on_hand(records, b) - on_hand(records, a), "{at}");
             assert_eq!(between as i128, entries_added_up(&store, a, b), "{at}");
             assert_eq!(store.units_between(b, a), Ok(-between), "{at}");
-            shown.extend(shown_between(records, a, b));
-            shown.extend(told_apart(between as i128, wrong_differences(records, a, b)));
+            let told = told_apart(between as i128, wrong_differences(records, a, b));
+            shown.extend(shown_between(records, a, b).into_iter().chain(told).map(|name| ("between", name)));
         }
         assert_eq!(store, before, "case {case}");
         shown.into_iter().for_each(|name| *met.entry(name).or_default() += 1);

@@ -1,4 +1,5 @@
--- `lines::put_units` meets its contract. Assumes nothing.
+-- `lines::put_units` meets its contract: a word and a number. Assumes nothing.
+use native.Mathlib.Omega.{arith}
 use Rattle.lines.specs.Text.{unitsText}
 use borrow.Author.Needs.{needs}
 use Rattle.lines.proofs.put_units.Statement.{statement}
@@ -15,7 +16,9 @@ same-length c = search needs
 
 returns : tie.Need-returns
 unfolding unitsText
-returns c = search needs
+returns c =
+    let named = c .before .before .put-named .ensures in
+    (named .0, omega (arith, named .1))
 
 pub put-units-spec : {M : Type 1} → statement M
 put-units-spec = tie.close (tie.spec slice-aggregate-put-named put-named-requires same-length returns)

@@ -310,7 +310,6 @@ returns-8 : tie.Need-returns-8
 unfolding callOf saidOf OutputsKept
 returns-8 c catalogue e =
     let q = c .before in
-    let a = c .before .before .before .before .before .before .before .before .before .before .before .before .before .before .before .args in
     let g = c .before .before .before .before .before .before .before .call8 .given .1 in
     record {
       carried = rw (g, c .answered5 .ensures, written-same catalogue e) (Carried.units _ (q .at .ensures catalogue e));
@@ -333,7 +332,6 @@ returns-9 : tie.Need-returns-9
 unfolding callOf saidOf OutputsKept
 returns-9 c catalogue e =
     let q = c .before in
-    let a = c .before .before .before .before .before .before .before .before .before .before .before .before .before .before .before .args in
     let g = c .before .before .before .before .before .before .before .call9 .given .1 in
     record {
       carried = rw (g, c .answered6 .ensures, written-same catalogue e) (Carried.difference _ _ (q .between .ensures catalogue e));
