@@ -17,14 +17,15 @@ use Rattle.claims.proofs.Regions.{answered, none-asked}
 use Rattle.claims.proofs.Lists.{stays-in-order}
 
 module _ (st : State) (a : Audited st) (t : ℕ) (h : t ≤ st .numbers .last) where
-  position-accepted : firstNo (timeQuestions st t) ≡ 0
-  position-accepted =
+  -- no question about a time up to the last is answered no
+  pub time-accepted : firstNo (timeQuestions st t) ≡ 0
+  time-accepted =
       let held = leb t (st .numbers .last) in
       answered 0 (sound st) (question 12 held ∷ []) (audited-sound st a) (answered 11 held [] (le-leb _ _ h) none-asked)
 
   position-answered : positionOf st t ≡ answers (positionAt st t)
   unfolding positionOf
-  position-answered = rw position-accepted
+  position-answered = rw time-accepted
 
   pub position-tells : PositionTells st t (positionOf st t)
   position-tells =

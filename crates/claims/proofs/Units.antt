@@ -12,7 +12,7 @@ use Rattle.codec.specs.Parts.{zeros, put}
 use Rattle.model.specs.Answers.{answers, question, firstNo}
 use Rattle.model.specs.Rows.{tableBytes}
 use Rattle.model.specs.Memory.{State, sound}
-use Rattle.model.specs.Queries.{timeQuestions, rowsAt, tableSaid, tableOf}
+use Rattle.model.specs.Queries.{rowsAt, tableSaid, tableOf}
 use Rattle.model.specs.Audit.{Audited}
 use Rattle.model.specs.Units.{unitsAt, difference, unitsOf, differenceQuestions, differenceOf, sumOf, sumIn, AddsUp, UnitsTell, DifferenceTells}
 use Rattle.model.specs.Facts.{InOrder}
@@ -25,16 +25,14 @@ use Rattle.claims.proofs.Regions.{answered, none-asked}
 use Rattle.claims.proofs.FactLaws.{rows-few, rows-small}
 use Rattle.claims.proofs.SecondDemands.{table-accepted, table-answered}
 use Rattle.claims.proofs.Lists.{stays-in-order}
+use Rattle.claims.proofs.Positions.{time-accepted}
 
 -- ---- accepted
 
 module _ (st : State) (a : Audited st) where
   units-answered : (t : ℕ) → t ≤ st .numbers .last → unitsOf st t ≡ answers (unitsAt st t)
   unfolding unitsOf
-  units-answered t h =
-      let held = leb t (st .numbers .last) in
-      let none : firstNo (timeQuestions st t) ≡ 0 = answered 0 (sound st) (question 12 held ∷ []) (audited-sound st a) (answered 11 held [] (le-leb _ _ h) none-asked) in
-      rw none
+  units-answered t h = rw (time-accepted st a t h)
 
   difference-answered : (x y : ℕ) → x ≤ st .numbers .last → y ≤ st .numbers .last → differenceOf st x y ≡ answers (difference st x y)
   unfolding differenceOf

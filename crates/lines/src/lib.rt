@@ -1,5 +1,5 @@
-// The text of the listing (01, "One log by hand"; 02, wish 1), gathered in a buffer. Each function puts its text behind the first `at`
-// bytes of the buffer, which stay as they are, and answers how many bytes are in use then.
+// The text of the listing (01, "One log by hand"; 02, wish 1), gathered in a buffer. Each function puts its text behind the
+// first `at` bytes of the buffer, which stay as they are, and answers how many bytes are in use then.
 ghost use mathlib.Core.Path.{_≡_};
 ghost use Prim.Native.Nat.{_+_, _≤_};
 ghost use lib.ListN.{length};
