@@ -34,6 +34,11 @@
  * Time         Its unit is the maker's own: seconds, minutes or a running number. Each request's time is
  *              above the last one's, so the first is 1 or more; time 0 is that of the empty table, and no
  *              request has it.
+ * Late times   Position, table, view, units, units between and net change answer a time after the last
+ *              request as they answer the last request's own, `later` and `requests_between` included; with
+ *              no request yet, as time 0. So the clock's time may be asked for. Nothing is remembered: after
+ *              a further append such a time is answered anew. Only yk_keep refuses it, by 12, because a
+ *              later request could make the file wrong.
  * Saving       Save the first 24 + 24 x records bytes of the log, which yk_store_log_bytes counts. Nothing
  *              else need be: yk_open makes index, table and numbers from them. Count files are not saved;
  *              keep them again.
@@ -80,7 +85,7 @@ enum yk_question {
     YK_ROWS_FULL = 9,        /* as many rows are live as the limit allows */
     YK_LOG_FULL = 10,        /* no space for the record, or for an update's two */
     YK_INDEX_FULL = 11,      /* no space for the nodes then needed */
-    YK_TIME_AFTER_LAST = 12, /* the time asked for is after the last */
+    YK_TIME_AFTER_LAST = 12, /* the time to keep is after the last; only a keep is refused by it */
     YK_OUTPUT_SHORT = 13,    /* the output or the workspace is too short */
     YK_NOT_TO_KEEP = 14,     /* time 0, or kept already */
     YK_CATALOGUE_FULL = 15,  /* no space for a count file */
@@ -208,19 +213,21 @@ yk_change yk_update(yk_numbers numbers, uint8_t *log, size_t log_length, uint64_
     uint8_t *table, size_t table_length, const yk_entry *entries, size_t entries_length, const uint8_t *areas,
     size_t areas_length, uint64_t time, uint32_t article, uint32_t count);
 
-/* The position of a time: its page and its requests. Writes nothing. Refuses by 1, 12. */
+/* The calls from here to yk_units_between answer for any time; see "Late times" above. */
+
+/* The position of a time: its page and its requests. Writes nothing. Refuses by 1. */
 yk_position_answer yk_position(yk_numbers numbers, const uint8_t *log, size_t log_length, const uint64_t *index,
     size_t index_length, const uint8_t *table, size_t table_length, const yk_entry *entries,
     size_t entries_length, const uint8_t *areas, size_t areas_length, uint64_t time);
 
-/* The table of a time, into the first 8 x limit bytes of out. Refuses by 1, 12, 13. */
+/* The table of a time, into the first 8 x limit bytes of out. Refuses by 1, 13. */
 yk_table_answer yk_table(yk_numbers numbers, const uint8_t *log, size_t log_length, const uint64_t *index,
     size_t index_length, const uint8_t *table, size_t table_length, const yk_entry *entries,
     size_t entries_length, const uint8_t *areas, size_t areas_length, uint64_t time, uint8_t *out,
     size_t out_length);
 
 /* The rows that the table of a time is worked out from, where they lie: yk_view_part makes a part of the
- * answer. Writes nothing. Refuses by 1, 12. */
+ * answer. Writes nothing. Refuses by 1. */
 yk_view_answer yk_view(yk_numbers numbers, const uint8_t *log, size_t log_length, const uint64_t *index,
     size_t index_length, const uint8_t *table, size_t table_length, const yk_entry *entries,
     size_t entries_length, const uint8_t *areas, size_t areas_length, uint64_t time);
@@ -229,27 +236,27 @@ yk_view_answer yk_view(yk_numbers numbers, const uint8_t *log, size_t log_length
  * of out: entries of 12 bytes, and zeros after them. An entry is length 12 and kind (2 insertion, 3 deletion),
  * 2 bytes each, then article and count, 4 bytes each, little-endian; ascending by article, the deletion of an
  * article before its insertion. A row that is alike in both tables has none. Work then holds, in its first
- * 16 x limit bytes, the table of a and the table of b. Refuses by 1, 12, 13. */
+ * 16 x limit bytes, the table of a and the table of b. Refuses by 1, 13. */
 yk_net_change_answer yk_net_change(yk_numbers numbers, const uint8_t *log, size_t log_length,
     const uint64_t *index, size_t index_length, const uint8_t *table, size_t table_length,
     const yk_entry *entries, size_t entries_length, const uint8_t *areas, size_t areas_length, uint64_t a,
     uint64_t b, uint8_t *out, size_t out_length, uint8_t *work, size_t work_length);
 
 /* The units on hand at a time: the counts of its table added up, which are the counts inserted up to then less
- * the counts deleted. Writes nothing. Refuses by 1, 12. */
+ * the counts deleted. Writes nothing. Refuses by 1. */
 yk_units_answer yk_units(yk_numbers numbers, const uint8_t *log, size_t log_length, const uint64_t *index,
     size_t index_length, const uint8_t *table, size_t table_length, const yk_entry *entries,
     size_t entries_length, const uint8_t *areas, size_t areas_length, uint64_t time);
 
 /* The units at time b less those at time a, a before or after b. 0 says that the totals agree, not that the
- * tables are the same. Writes nothing. Refuses by 1, 12. */
+ * tables are the same. Writes nothing. Refuses by 1. */
 yk_units_between_answer yk_units_between(yk_numbers numbers, const uint8_t *log, size_t log_length,
     const uint64_t *index, size_t index_length, const uint8_t *table, size_t table_length,
     const yk_entry *entries, size_t entries_length, const uint8_t *areas, size_t areas_length, uint64_t a,
     uint64_t b);
 
 /* Keeps the table of a time as a count file: writes its entry and area, and moves the files of later times up
- * by one. Refuses by 1, 12, 14, 15. */
+ * by one. Refuses by 1, 12 (a time after the last), 14, 15. */
 yk_change yk_keep(yk_numbers numbers, const uint8_t *log, size_t log_length, const uint64_t *index,
     size_t index_length, const uint8_t *table, size_t table_length, yk_entry *entries, size_t entries_length,
     uint8_t *areas, size_t areas_length, uint64_t time);
@@ -278,9 +285,9 @@ static inline yk_part yk_view_part(yk_view_answer view, const uint8_t *areas, co
 
 /* The version of this header, and that of the archive as the one number that the header has as YK_VERSION_NUMBER. */
 #define YK_VERSION_MAJOR 0
-#define YK_VERSION_MINOR 3
+#define YK_VERSION_MINOR 4
 #define YK_VERSION_PATCH 0
-#define YK_VERSION "0.3.0"
+#define YK_VERSION "0.4.0"
 #define YK_VERSION_NUMBER (65536u * YK_VERSION_MAJOR + 256u * YK_VERSION_MINOR + YK_VERSION_PATCH)
 
 uint32_t yk_version(void);
@@ -300,7 +307,7 @@ static inline const char *yk_question_text(unsigned question) {
     case YK_ROWS_FULL: return "as many rows are live as the row limit allows";
     case YK_LOG_FULL: return "the log has no space for the request";
     case YK_INDEX_FULL: return "the index has no space for the nodes that the request needs";
-    case YK_TIME_AFTER_LAST: return "the time is after the last request";
+    case YK_TIME_AFTER_LAST: return "the time to keep is after the last request";
     case YK_OUTPUT_SHORT: return "the output or the workspace is too short";
     case YK_NOT_TO_KEEP: return "the time is 0 or is kept already";
     case YK_CATALOGUE_FULL: return "there is no space for another count file";
@@ -314,7 +321,8 @@ static inline const char *yk_question_text(unsigned question) {
  *
  * Zero it, set the regions, and start it by yk_store_fresh or yk_store_open; its functions keep the numbers. A
  * region that is null counts as one of length 0, and the calls get a pointer that is not null for it. A copy of
- * it shares the memory and is no second store: go on with one of them. */
+ * it shares the memory and is no second store: go on with one of them. Its queries answer for any time, see
+ * "Late times" above; a program that must know whether a time is late compares it with numbers.last. */
 typedef struct yk_store {
     uint8_t *log;
     size_t log_length;
@@ -442,7 +450,7 @@ static inline enum yk_question yk_store_update(yk_store *store, uint64_t time, u
     return yk_store_take(store, yk_update(s.numbers, YK_LENT(s), time, article, count));
 }
 
-/* yk_keep */
+/* yk_keep: a time up to numbers.last. */
 static inline enum yk_question yk_store_keep(yk_store *store, uint64_t time) {
     yk_store s = yk_store_lent(store);
     return yk_store_take(store, yk_keep(s.numbers, YK_LENT(s), time));

@@ -1,5 +1,6 @@
-/* A week with a handheld counter: shifts of counting, a past day's table and its units, Friday's deletions, what
- * a wholesaler gets, and the log written to a file and opened again. The argument is the file to write.
+/* A week with a handheld counter: shifts of counting, a past day's table and its units, Friday's deletions, the
+ * table by the clock, what a wholesaler gets, and the log written to a file and opened again. The argument is the
+ * file to write.
  *
  *     gcc -std=c99 -Iinclude examples/c/shift.c target/staticlib/libembed.a -o shift && ./shift week.log */
 #include <stdio.h>
@@ -111,8 +112,10 @@ int main(int many, char **arguments) {
     count_the_week(&store);
     print_table(&store, "Tuesday evening", at(TUESDAY, 18, 0), out, need);
     friday(&store);
-    print_table(&store, "now", store.numbers.last, out, need);
-    print_net_change(&store, "Thursday to Friday", at(THURSDAY, 16, 45), store.numbers.last, out, work, need);
+    /* The clock has gone on since the last request: such a time is answered as that of the last request. */
+    uint64_t now = at(FRIDAY, 8, 45);
+    print_table(&store, "now", now, out, need);
+    print_net_change(&store, "Thursday to Friday", at(THURSDAY, 16, 45), now, out, work, need);
     must(yk_store_drop(&store, at(THURSDAY, 16, 45)));
 
     enum yk_question no = yk_store_insert(&store, at(FRIDAY, 9, 0), 4711, 8);

@@ -1,5 +1,6 @@
-//! A week with a handheld counter: shifts of counting, a past day's table and its units, Friday's deletions, what
-//! a wholesaler gets, and the log written to a file and opened again. The argument is the file to write.
+//! A week with a handheld counter: shifts of counting, a past day's table and its units, Friday's deletions, the
+//! table by the clock, what a wholesaler gets, and the log written to a file and opened again. The argument is the
+//! file to write.
 //!
 //!     YK_LIB_DIR=$PWD/target/staticlib cargo run --manifest-path rust/Cargo.toml --example shift week.log
 
@@ -110,8 +111,9 @@ fn main() -> Result<(), Box<dyn Error>> {
     count_the_week(&mut store)?;
     print_table(&store, "Tuesday evening", at(TUESDAY, 18, 0), &mut out)?;
     friday(&mut store)?;
-    print_table(&store, "now", store.numbers().last, &mut out)?;
-    let (thursday, now) = (at(THURSDAY, 16, 45), store.numbers().last);
+    // The clock has gone on since the last request: such a time is answered as that of the last request.
+    let (thursday, now) = (at(THURSDAY, 16, 45), at(FRIDAY, 8, 45));
+    print_table(&store, "now", now, &mut out)?;
     print_net_change(&store, "Thursday to Friday", thursday, now, &mut out, &mut work)?;
     store.drop_file(thursday)?;
 

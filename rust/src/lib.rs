@@ -31,6 +31,7 @@
 //! let (before, after) = (Row { article: 7, count: 50 }, Row { article: 7, count: 44 });
 //! assert_eq!(steps, [Step::Delete(before), Step::Insert(after)]);
 //! assert_eq!(store.units_between(20, 30)?, -6); // negative where stock fell
+//! assert_eq!(store.units(31)?, 44); // after the last request: as at the last
 //! # Ok::<(), yokefennel::Refusal>(())
 //! ```
 //!
@@ -61,6 +62,10 @@
 //!
 //! - **Time**: its unit is yours. Each request's time is above the last one's, so the first is 1 or more; time 0
 //!   is that of the empty table, and no request has it.
+//! - **Late times**: a time after the last request is answered as the last one, side, place and requests between
+//!   included; with no request yet, as time 0. So the clock's time may be asked for. Nothing is remembered: after a
+//!   further append such a time is answered anew. Only [`Store::keep`] refuses it, by 12, because a later request
+//!   could make the file wrong. Where it matters whether a time is late, compare it with [`Numbers::last`].
 //! - **Memory**: [`Settings::lengths`] says how much to lend. No call needs a count file: entries and areas may
 //!   be empty.
 //! - **Saving**: [`Store::log`] is all that need be saved; [`Store::open`] makes the rest anew.

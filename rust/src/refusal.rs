@@ -29,7 +29,7 @@ pub enum Refusal {
     LogFull,
     /// 11: the index has no space for the nodes that the request needs, which may be two
     IndexFull,
-    /// 12: the time is after the last request
+    /// 12: the time to keep is after the last request; only a keep is refused so
     TimeAfterLast,
     /// 13: the output or the workspace is too short
     OutputShort,
@@ -110,7 +110,7 @@ impl Refusal {
             Refusal::RowsFull => "as many rows are live as the row limit allows",
             Refusal::LogFull => "the log has no space for the request",
             Refusal::IndexFull => "the index has no space for the nodes that the request needs",
-            Refusal::TimeAfterLast => "the time is after the last request",
+            Refusal::TimeAfterLast => "the time to keep is after the last request",
             Refusal::OutputShort => "the output or the workspace is too short",
             Refusal::NotToKeep => "the time is 0 or is kept already",
             Refusal::CatalogueFull => "there is no space for another count file",
@@ -149,6 +149,8 @@ mod tests {
     #[test]
     fn words_begin_with_the_number() {
         assert_eq!(Refusal::TimeNotAbove.to_string(), "refused by 6: the time is not above the last");
+        let late = Refusal::TimeAfterLast;
+        assert_eq!(late.to_string(), "refused by 12: the time to keep is after the last request");
         let wrong = Refusal::WrongRecord { record: 4 };
         assert_eq!(wrong.to_string(), "refused by 17: the log is not legal beyond its first 4 records");
     }

@@ -35,7 +35,8 @@ pub struct Store<'a> {
     lent: Lent<'a>,
 }
 
-/// Which way from a time the table lies that its own is worked out from.
+/// Which way from a time the table lies that its own is worked out from. For a time after the last, which is
+/// answered as the last one, it is the way from that one.
 #[derive(Clone, Copy, Debug, PartialEq, Eq, Hash)]
 pub enum Side {
     /// at or before it
@@ -278,9 +279,25 @@ impl<'a> Store<'a> {
         self.take(answer)
     }
 
-    /// Keeps the table of a time as a count file, so that tables near it are found sooner.
+    /// Keeps the table of a time as a count file, so that tables near it are found sooner. A time after the last is
+    /// refused by 12, because a later request could make the file wrong: keep the last one itself.
     ///
     /// Refuses by 1, 12, 14, 15.
+    ///
+    /// ```
+    /// # use yokefennel::{Entry, Lent, Refusal, Settings, Store};
+    /// # let (log, index, table) = (&mut [0; 96], &mut [0; 7], &mut [0; 32]);
+    /// # let (entries, areas) = (&mut [Entry::default()], &mut [0; 32]);
+    /// # let mut store = Store::fresh(
+    /// #     Settings { order: 8, page: 2, limit: 4 },
+    /// #     Lent { log, index, table, entries, areas },
+    /// # )?;
+    /// store.insert(10, 7, 50)?;
+    /// assert_eq!(store.keep(11), Err(Refusal::TimeAfterLast));
+    /// store.keep(store.numbers().last)?;
+    /// assert_eq!(store.files(), [Entry { time: 10, rows: 1 }]);
+    /// # Ok::<(), Refusal>(())
+    /// ```
     pub fn keep(&mut self, time: u64) -> Result<(), Refusal> {
         let Lent { log, index, table, entries, areas } = &mut self.lent;
         let answer = unsafe {
@@ -310,9 +327,9 @@ impl<'a> Store<'a> {
         self.take(answer)
     }
 
-    /// The position of a time: its page and its requests.
+    /// The position of a time: its page and its requests. A time after the last is answered as the last one.
     ///
-    /// Refuses by 1, 12.
+    /// Refuses by 1.
     pub fn position(&self, time: u64) -> Result<Position, Refusal> {
         let Lent { log, index, table, entries, areas } = &self.lent;
         let answer = unsafe {
@@ -327,9 +344,22 @@ impl<'a> Store<'a> {
         Ok(Position { page: answer.page, requests: answer.requests })
     }
 
-    /// The table of a time, into the first 8 × limit bytes of `out`.
+    /// The table of a time, into the first 8 × limit bytes of `out`. A time after the last is answered as the last
+    /// one, so the clock's time may be asked for.
     ///
-    /// Refuses by 1, 12, 13.
+    /// Refuses by 1, 13.
+    ///
+    /// ```
+    /// # use yokefennel::{Lent, Row, Settings, Store};
+    /// # let (log, index, table) = (&mut [0; 96], &mut [0; 7], &mut [0; 32]);
+    /// # let lent = Lent { log, index, table, entries: &mut [], areas: &mut [] };
+    /// # let mut store = Store::fresh(Settings { order: 8, page: 2, limit: 4 }, lent)?;
+    /// store.insert(10, 7, 50)?; // at time 10, article 7 with count 50
+    /// let (now, mut out) = (15, [0; 32]);
+    /// let rows: Vec<Row> = store.table(now, &mut out)?.rows().collect();
+    /// assert_eq!(rows, [Row { article: 7, count: 50 }]);
+    /// # Ok::<(), yokefennel::Refusal>(())
+    /// ```
     pub fn table<'o>(&self, time: u64, out: &'o mut [u8]) -> Result<Table<'o>, Refusal> {
         let Lent { log, index, table, entries, areas } = &self.lent;
         let answer = unsafe {
@@ -345,9 +375,10 @@ impl<'a> Store<'a> {
         Ok(Table { bytes: out, rows: answer.rows, side, requests_between })
     }
 
-    /// The rows that the table of a time is worked out from, where they lie.
+    /// The rows that the table of a time is worked out from, where they lie. A time after the last is answered as
+    /// the last one.
     ///
-    /// Refuses by 1, 12.
+    /// Refuses by 1.
     pub fn view(&self, time: u64) -> Result<View<'_>, Refusal> {
         let Lent { log, index, table, entries, areas } = &self.lent;
         let answer = unsafe {
@@ -370,9 +401,10 @@ impl<'a> Store<'a> {
     }
 
     /// What leads from the table of time a to that of time b, a before or after b, into the first 24 × limit
-    /// bytes of `out`. The first 16 × limit bytes of `work` then hold the table of a and the table of b.
+    /// bytes of `out`. The first 16 × limit bytes of `work` then hold the table of a and the table of b. A time
+    /// after the last is answered as the last one.
     ///
-    /// Refuses by 1, 12, 13.
+    /// Refuses by 1, 13.
     pub fn net_change<'o>(
         &self, a: u64, b: u64, out: &'o mut [u8], work: &mut [u8],
     ) -> Result<NetChange<'o>, Refusal> {
@@ -390,9 +422,10 @@ impl<'a> Store<'a> {
     }
 
     /// The units on hand at a time: the counts of its table added up, which are the counts inserted up to then
-    /// less the counts deleted. Where the audit passes they are below 2^42.
+    /// less the counts deleted. Where the audit passes they are below 2^42. A time after the last is answered as the
+    /// last one.
     ///
-    /// Refuses by 1, 12.
+    /// Refuses by 1.
     ///
     /// ```
     /// # use yokefennel::{Lent, Settings, Store};
@@ -401,7 +434,7 @@ impl<'a> Store<'a> {
     /// # let mut store = Store::fresh(Settings { order: 8, page: 2, limit: 4 }, lent)?;
     /// store.insert(10, 7, 50)?; // at time 10, article 7 with count 50
     /// store.insert(20, 3, 12)?;
-    /// assert_eq!([9, 10, 20].map(|time| store.units(time)), [Ok(0), Ok(50), Ok(62)]);
+    /// assert_eq!([9, 10, 20, 21].map(|time| store.units(time)), [Ok(0), Ok(50), Ok(62), Ok(62)]);
     /// # Ok::<(), yokefennel::Refusal>(())
     /// ```
     pub fn units(&self, time: u64) -> Result<u64, Refusal> {
@@ -419,9 +452,9 @@ impl<'a> Store<'a> {
     }
 
     /// The units at time b less those at time a, a before or after b: negative where stock fell. 0 says that the
-    /// totals agree, not that the tables are the same.
+    /// totals agree, not that the tables are the same. A time after the last is answered as the last one.
     ///
-    /// Refuses by 1, 12.
+    /// Refuses by 1.
     ///
     /// ```
     /// # use yokefennel::{Lent, Settings, Store};

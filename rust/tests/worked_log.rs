@@ -1,8 +1,11 @@
 //! 01's log by hand, through the handle.
 
-use yokefennel::{Entry, Lent, Numbers, Place, Refusal, Row, Settings, Side, Step, Store};
+use yokefennel::{Entry, Lent, Numbers, Place, Position, Refusal, Row, Settings, Side, Step, Store};
 
 const SETTINGS: Settings = Settings { order: 3, page: 2, limit: 4 };
+
+/// Times after the last, which are answered as the last one.
+const LATE: [u64; 3] = [61, 1_000, u64::MAX];
 
 #[derive(Clone, Debug, PartialEq)]
 struct Memory {
@@ -57,6 +60,25 @@ fn table(store: &Store, time: u64) -> (Vec<Row>, Side, u32) {
     (table.rows().collect(), table.side, table.requests_between)
 }
 
+/// The bytes of the table of a time, zeros after its rows included.
+fn table_bytes(store: &Store, time: u64) -> [u8; 32] {
+    let mut out = [0xA5; 32];
+    store.table(time, &mut out).unwrap();
+    out
+}
+
+fn outset(store: &Store, time: u64) -> (Place, Side, u32) {
+    let view = store.view(time).unwrap();
+    (view.place, view.side, view.requests_between)
+}
+
+/// The entries of a net change, with its output and workspace.
+fn net_change(store: &Store, a: u64, b: u64) -> (Vec<Step>, [u8; 96], [u8; 64]) {
+    let (mut out, mut work) = ([0xA5; 96], [0xA5; 64]);
+    let steps = store.net_change(a, b, &mut out, &mut work).unwrap().steps().collect();
+    (steps, out, work)
+}
+
 #[test]
 fn log_numbers_and_positions() {
     let mut memory = Memory::of(9, 2);
@@ -65,9 +87,9 @@ fn log_numbers_and_positions() {
     assert_eq!(store.numbers(), numbers);
     assert_eq!(store.log(), std::fs::read("../samples/log-by-hand.log").unwrap());
     assert_eq!(store.rows().collect::<Vec<_>>(), [row(7, 44), row(9, 6)]);
-    let positions = [0, 9, 10, 29, 30, 35, 40, 60].map(|time| store.position(time).unwrap());
-    assert_eq!(positions.map(|position| position.page), [0, 0, 0, 0, 1, 1, 2, 3]);
-    assert_eq!(positions.map(|position| position.requests), [0, 0, 1, 2, 4, 4, 5, 8]);
+    let positions = [0, 9, 10, 29, 30, 35, 40, 60, 61, u64::MAX].map(|time| store.position(time).unwrap());
+    assert_eq!(positions.map(|position| position.page), [0, 0, 0, 0, 1, 1, 2, 3, 3, 3]);
+    assert_eq!(positions.map(|position| position.requests), [0, 0, 1, 2, 4, 4, 5, 8, 8, 8]);
     assert!(store.audit());
 }
 
@@ -94,17 +116,17 @@ fn tables_and_net_changes() {
 
 /// 01's totals and differences; a total is the sum of the rows shown, a difference that of two totals.
 fn compare_units(store: &Store) {
-    let units = [0, 9, 10, 20, 30, 40, 50, 60].map(|time| store.units(time).unwrap());
-    assert_eq!(units, [0, 0, 50, 62, 56, 44, 49, 50]);
+    let units = [0, 9, 10, 20, 30, 40, 50, 60, 61, u64::MAX].map(|time| store.units(time).unwrap());
+    assert_eq!(units, [0, 0, 50, 62, 56, 44, 49, 50, 50, 50]);
     assert_eq!((store.units_between(20, 45), store.units_between(45, 20)), (Ok(-18), Ok(18)));
     assert_eq!((store.units_between(45, 50), store.units_between(30, 35)), (Ok(5), Ok(0)));
     // the totals agree, the tables differ
     assert_eq!((store.units_between(10, 60), store.units_between(60, 10)), (Ok(0), Ok(0)));
     assert_ne!(table(store, 10).0, table(store, 60).0);
-    for a in 0..=60 {
+    for a in 0..=62 {
         let units = store.units(a).unwrap();
         assert_eq!(table(store, a).0.iter().map(|row| u64::from(row.count)).sum::<u64>(), units);
-        for b in 0..=60 {
+        for b in 0..=62 {
             let difference = store.units(b).unwrap() as i64 - units as i64;
             assert_eq!(store.units_between(a, b), Ok(difference), "{a} to {b}");
         }
@@ -153,10 +175,7 @@ fn units_write_nothing() {
     let before = memory.clone();
     let store = Store::resume(numbers, memory.lend());
     compare_units(&store);
-    assert_eq!(store.units(61), Err(Refusal::TimeAfterLast));
-    assert_eq!(store.units_between(61, 20), Err(Refusal::TimeAfterLast));
-    assert_eq!(store.units_between(20, 61), Err(Refusal::TimeAfterLast));
-    // question 1 goes before 12
+    // question 1 is asked of a late time too
     let store = Store::resume(Numbers { records: 7, ..numbers }, memory.lend());
     assert_eq!((store.units(20), store.units(61)), (Err(Refusal::Header), Err(Refusal::Header)));
     assert_eq!(store.units_between(20, 45), Err(Refusal::Header));
@@ -166,10 +185,6 @@ fn units_write_nothing() {
 
 #[test]
 fn count_files_and_views() {
-    fn outset(store: &Store, time: u64) -> (Place, Side, u32) {
-        let view = store.view(time).unwrap();
-        (view.place, view.side, view.requests_between)
-    }
     let mut memory = Memory::of(9, 2);
     let mut store = build(&mut memory);
     store.keep(20).unwrap();
@@ -197,6 +212,133 @@ fn count_files_and_views() {
     assert!(store.audit());
 }
 
+/// 01's case of time 61 is an answer since wish 2 of 02, with the table of 60.
+#[test]
+fn late_times() {
+    let mut memory = Memory::of(9, 2);
+    let store = build(&mut memory);
+    let last = vec![row(7, 44), row(9, 6)];
+    let bytes = [7, 0, 0, 0, 44, 0, 0, 0, 9, 0, 0, 0, 6, 0, 0, 0];
+    for time in LATE {
+        assert_eq!(store.position(time), Ok(Position { page: 3, requests: 8 }));
+        // 8 requests from time 0, none from the current table
+        assert_eq!(table(&store, time), (last.clone(), Side::Later, 0));
+        assert_eq!(
+            (&table_bytes(&store, time)[..16], &table_bytes(&store, time)[16..]),
+            (&bytes[..], &[0; 16][..])
+        );
+        assert_eq!(outset(&store, time), (Place::Current, Side::Later, 0));
+        assert_eq!(store.view(time).unwrap().rows().collect::<Vec<_>>(), last);
+        assert_eq!(store.units(time), Ok(50));
+        // 44 + 6 less 12 + 50, and back
+        assert_eq!((store.units_between(20, time), store.units_between(time, 20)), (Ok(-12), Ok(12)));
+        assert_eq!((store.units_between(0, time), store.units_between(time, 0)), (Ok(50), Ok(-50)));
+    }
+    assert_eq!((table(&store, 60), table_bytes(&store, 60)), (table(&store, 61), table_bytes(&store, 61)));
+    assert_eq!(store.table(61, &mut [0; 32]).unwrap().count(9), Some(6));
+}
+
+#[test]
+fn net_changes_of_late_times() {
+    let mut memory = Memory::of(9, 2);
+    let store = build(&mut memory);
+    let (old, new) = ([row(3, 12), row(7, 50)], [row(7, 44), row(9, 6)]);
+    let there = [Step::Delete(old[0]), Step::Delete(old[1]), Step::Insert(new[0]), Step::Insert(new[1])];
+    let back = [Step::Insert(old[0]), Step::Delete(new[0]), Step::Insert(old[1]), Step::Delete(new[1])];
+    let work = |a, b| [table_bytes(&store, a), table_bytes(&store, b)].concat();
+    for time in LATE {
+        assert_eq!(net_change(&store, 20, time), net_change(&store, 20, 60));
+        assert_eq!(net_change(&store, time, 20), net_change(&store, 60, 20));
+        let (steps, out, both) = net_change(&store, 20, time);
+        assert_eq!((&steps[..], &out[48..], &both[..]), (&there[..], &[0; 48][..], &work(20, 60)[..]));
+        let (steps, out, both) = net_change(&store, time, 20);
+        assert_eq!((&steps[..], &out[48..], &both[..]), (&back[..], &[0; 48][..], &work(60, 20)[..]));
+        // one table, however late
+        for other in [60, 61, u64::MAX] {
+            for (a, b) in [(time, other), (other, time)] {
+                let (steps, out, both) = net_change(&store, a, b);
+                assert_eq!((steps.len(), out, &both[..]), (0, [0; 96], &work(60, 60)[..]));
+                assert_eq!(store.units_between(a, b), Ok(0));
+            }
+        }
+    }
+}
+
+/// A count file of the last time goes before the current table, for late times too.
+#[test]
+fn a_file_of_the_last_time() {
+    let mut memory = Memory::of(9, 2);
+    let mut store = build(&mut memory);
+    let last = vec![row(7, 44), row(9, 6)];
+    for (kept, file) in [(60, 0), (20, 1)] {
+        store.keep(kept).unwrap();
+        for time in [60].into_iter().chain(LATE) {
+            assert_eq!(outset(&store, time), (Place::File(file), Side::Earlier, 0));
+            assert_eq!(store.view(time).unwrap().rows().collect::<Vec<_>>(), last);
+            assert_eq!(table(&store, time), (last.clone(), Side::Earlier, 0));
+        }
+    }
+    compare_units(&store);
+    // with only 20 kept, 6 requests from it and none from the current table
+    store.drop_file(60).unwrap();
+    assert_eq!(outset(&store, 61), (Place::Current, Side::Later, 0));
+}
+
+/// A time that was late is answered anew after a further request.
+#[test]
+fn no_late_time_is_remembered() {
+    let mut memory = Memory::of(9, 2);
+    let mut store = build(&mut memory);
+    let (old, new) = (vec![row(7, 44), row(9, 6)], vec![row(7, 44)]);
+    assert_eq!((table(&store, 70).0, table(&store, 80).0), (old.clone(), old.clone()));
+    store.delete(70, 9).unwrap();
+    // 69 has one request between it and the current table, 70 and later times have none
+    assert_eq!(table(&store, 69), (old, Side::Later, 1));
+    assert_eq!(outset(&store, 69), (Place::Current, Side::Later, 1));
+    assert_eq!(store.position(69), Ok(Position { page: 3, requests: 8 }));
+    for time in [70, 71, 80, u64::MAX] {
+        assert_eq!(table(&store, time), (new.clone(), Side::Later, 0));
+        assert_eq!(store.position(time), Ok(Position { page: 4, requests: 9 }));
+        assert_eq!((store.units(time), store.units_between(69, time)), (Ok(44), Ok(-6)));
+        assert_eq!(net_change(&store, 69, time).0, [Step::Delete(row(9, 6))]);
+    }
+    assert!(store.audit());
+}
+
+/// The largest time there is: late, then that of a request.
+#[test]
+fn the_largest_time() {
+    let mut memory = Memory::of(2, 1);
+    let mut store = Store::fresh(SETTINGS, memory.lend()).unwrap();
+    store.insert(u64::MAX - 1, 7, 50).unwrap();
+    assert_eq!((store.units(u64::MAX), store.keep(u64::MAX)), (Ok(50), Err(Refusal::TimeAfterLast)));
+    store.insert(u64::MAX, 3, 12).unwrap();
+    assert_eq!((store.units(u64::MAX - 1), store.units(u64::MAX)), (Ok(50), Ok(62)));
+    assert_eq!(store.keep(u64::MAX), Ok(()));
+    assert_eq!(outset(&store, u64::MAX), (Place::File(0), Side::Earlier, 0));
+}
+
+/// With no record every time is answered as time 0.
+#[test]
+fn times_of_an_empty_store() {
+    let mut memory = Memory::of(9, 2);
+    let mut store = Store::fresh(SETTINGS, memory.lend()).unwrap();
+    for time in [0, 1, u64::MAX] {
+        assert_eq!(store.position(time), Ok(Position { page: 0, requests: 0 }));
+        assert_eq!((table(&store, time), table_bytes(&store, time)), ((vec![], Side::Earlier, 0), [0; 32]));
+        assert_eq!(outset(&store, time), (Place::Empty, Side::Earlier, 0));
+        assert_eq!((store.view(time).unwrap().rows().len(), store.units(time)), (0, Ok(0)));
+        for other in [0, 1, u64::MAX] {
+            assert_eq!(net_change(&store, time, other), (vec![], [0; 96], [0; 64]));
+            assert_eq!(store.units_between(time, other), Ok(0));
+        }
+    }
+    assert_eq!(store.keep(0), Err(Refusal::NotToKeep));
+    assert_eq!(store.keep(1), Err(Refusal::TimeAfterLast));
+    assert_eq!(store.keep(u64::MAX), Err(Refusal::TimeAfterLast));
+    assert!(store.audit() && store.files().is_empty());
+}
+
 #[test]
 fn refusals_change_nothing() {
     let mut memory = Memory::of(9, 2);
@@ -206,9 +348,13 @@ fn refusals_change_nothing() {
     assert_eq!(store.insert(61, 7, 1), Err(Refusal::ArticlePresent));
     assert_eq!(store.delete(61, 3), Err(Refusal::ArticleAbsent));
     assert_eq!(store.update(61, 9, 7), Err(Refusal::LogFull));
-    assert_eq!(store.position(61), Err(Refusal::TimeAfterLast));
+    // only a keep is refused a time after the last
+    assert_eq!(LATE.map(|time| store.keep(time)), [Err(Refusal::TimeAfterLast); 3]);
     assert_eq!(store.table(20, &mut [0; 31]).unwrap_err(), Refusal::OutputShort);
+    assert_eq!(store.table(61, &mut [0; 31]).unwrap_err(), Refusal::OutputShort);
     assert_eq!(store.net_change(20, 45, &mut [0; 96], &mut []).unwrap_err(), Refusal::OutputShort);
+    assert_eq!(store.net_change(20, 61, &mut [0; 95], &mut [0; 64]).unwrap_err(), Refusal::OutputShort);
+    assert_eq!(store.net_change(61, 20, &mut [0; 96], &mut [0; 63]).unwrap_err(), Refusal::OutputShort);
     assert_eq!(store.numbers(), numbers);
     assert!(store.audit());
 }
@@ -340,7 +486,7 @@ fn damaged_memory() {
             damage(&mut memory);
             let store = Store::resume(numbers, memory.lend());
             assert!(!store.audit(), "region {region}, place {place}");
-            for time in [0, 15, 30, 60] {
+            for time in [0, 15, 30, 60, u64::MAX] {
                 let _ = store.view(time).map(|view| view.rows().count());
                 let _ = store.table(time, &mut out).map(|table| table.rows().count());
                 let _ = store.net_change(time, 45, &mut out, &mut work).map(|change| change.steps().count());

@@ -75,12 +75,40 @@ static void ask_units(const yk_store *store) {
     require(difference_is(store, 20, 45, -18) && difference_is(store, 45, 20, 18), "20 to 45 and back");
     require(difference_is(store, 45, 50, 5), "45 to 50");
     require(difference_is(store, 10, 60, 0), "10 to 60: the totals agree, the tables differ");
-    yk_units_answer after = yk_store_units(store, 61);
-    require(after.question == YK_TIME_AFTER_LAST && after.units == 0, "units of 61");
-    yk_units_between_answer from = yk_store_units_between(store, 61, 20);
-    require(from.question == YK_TIME_AFTER_LAST && from.units == 0, "units from 61");
-    yk_units_between_answer to = yk_store_units_between(store, 20, 61);
-    require(to.question == YK_TIME_AFTER_LAST && to.units == 0, "units to 61");
+    require(units_are(store, 61, 50) && units_are(store, UINT64_MAX, 50), "units of late times: those of 60");
+    require(difference_is(store, 61, 20, 12) && difference_is(store, 20, 61, -12), "61 to 20 and back");
+    require(difference_is(store, 61, UINT64_MAX, 0) && difference_is(store, 0, UINT64_MAX, 50), "two late times, one");
+}
+
+/* The table of 60. */
+static int last_rows_are(const uint8_t *rows) {
+    return row_is(yk_row_at(rows, 0), 7, 44) && row_is(yk_row_at(rows, 1), 9, 6);
+}
+
+/* All fields of the answers to a time after the last: those of 60, which a file holds or else the current table. */
+static void ask_late(const yk_store *store, uint64_t time, int kept) {
+    yk_position_answer at = yk_store_position(store, time);
+    require(at.question == YK_ACCEPTED && at.page == 3 && at.requests == 8, "position of a late time");
+    yk_table_answer day = yk_store_table(store, time, out, sizeof out);
+    require(day.question == YK_ACCEPTED && day.rows == 2 && day.later == !kept && day.requests_between == 0,
+        "the table of a late time");
+    require(last_rows_are(out), "its rows");
+    yk_view_answer view = yk_store_view(store, time);
+    yk_part part = yk_store_view_part(store, view);
+    require(view.question == YK_ACCEPTED && view.place == (kept ? YK_AREA : YK_CURRENT) && view.area == 0
+            && view.rows == 2 && view.later == !kept && view.requests_between == 0 && view.start == 0
+            && view.length == 16,
+        "view of a late time");
+    require(part.bytes == (kept ? areas : table) && part.length == 16 && last_rows_are(part.bytes), "its part");
+    yk_net_change_answer change = yk_store_net_change(store, 20, time, out, sizeof out, work, sizeof work);
+    require(change.question == YK_ACCEPTED && change.entries == 4, "net change to a late time");
+    require(step_is(yk_step_at(out, 0), YK_DELETION, 3, 12) && step_is(yk_step_at(out, 1), YK_DELETION, 7, 50)
+            && step_is(yk_step_at(out, 2), YK_INSERTION, 7, 44) && step_is(yk_step_at(out, 3), YK_INSERTION, 9, 6),
+        "its entries");
+    change = yk_store_net_change(store, time, 61, out, sizeof out, work, sizeof work);
+    require(change.question == YK_ACCEPTED && change.entries == 0, "net change from one late time to another");
+    require(last_rows_are(work) && last_rows_are(work + 8 * LIMIT), "its workspace");
+    require(yk_store_table(store, time, out, 8 * LIMIT - 1).question == YK_OUTPUT_SHORT, "a late time's output");
 }
 
 static void ask(const yk_store *store) {
@@ -95,6 +123,8 @@ static void ask(const yk_store *store) {
             && step_is(yk_step_at(out, 2), YK_INSERTION, 7, 44),
         "its entries");
     ask_units(store);
+    ask_late(store, 61, 0);
+    ask_late(store, UINT64_MAX, 0);
     require(yk_store_table(store, 20, NULL, 32).question == YK_OUTPUT_SHORT, "no output");
     require(yk_store_net_change(store, 20, 45, NULL, 0, NULL, 0).question == YK_OUTPUT_SHORT, "no outputs");
 }
@@ -108,7 +138,41 @@ static void count_files(yk_store *store) {
     require(row_is(yk_row_at(part.bytes, 1), 7, 50), "a view's row");
     ask_units(store);
     require(yk_store_keep(store, 20) == YK_NOT_TO_KEEP && store->numbers.files == 1, "numbers of a refusal");
+    require(yk_store_keep(store, 61) == YK_TIME_AFTER_LAST && store->numbers.files == 1, "keep a late time");
+    require(yk_store_keep(store, UINT64_MAX) == YK_TIME_AFTER_LAST, "keep the latest");
     require(yk_store_drop(store, 20) == YK_ACCEPTED && store->numbers.files == 0, "drop");
+    require(yk_store_keep(store, store->numbers.last) == YK_ACCEPTED, "keep the last time");
+    ask_units(store);
+    ask_late(store, 61, 1);
+    ask_late(store, UINT64_MAX, 1);
+    require(yk_store_drop(store, 60) == YK_ACCEPTED && store->numbers.files == 0, "drop it");
+}
+
+/* No request yet: every time is answered as time 0. */
+static void no_requests(void) {
+    static const uint64_t asked[3] = {0, 1, UINT64_MAX};
+    yk_store store = over(1);
+    require(yk_store_fresh(&store, 3, 2, LIMIT) == YK_ACCEPTED, "an empty store");
+    for (int i = 0; i < 3; i++) {
+        yk_position_answer at = yk_store_position(&store, asked[i]);
+        require(at.question == YK_ACCEPTED && at.page == 0 && at.requests == 0, "its positions");
+        yk_table_answer day = yk_store_table(&store, asked[i], out, sizeof out);
+        require(day.question == YK_ACCEPTED && day.rows == 0 && day.later == 0 && day.requests_between == 0,
+            "its tables");
+        yk_view_answer view = yk_store_view(&store, asked[i]);
+        require(view.question == YK_ACCEPTED && view.place == YK_EMPTY && view.area == 0 && view.rows == 0
+                && view.later == 0 && view.requests_between == 0 && view.start == 0 && view.length == 0,
+            "its views");
+        require(units_are(&store, asked[i], 0), "its units");
+        for (int k = 0; k < 3; k++) {
+            yk_net_change_answer change
+                = yk_store_net_change(&store, asked[i], asked[k], out, sizeof out, work, sizeof work);
+            require(change.question == YK_ACCEPTED && change.entries == 0, "its net changes");
+            require(difference_is(&store, asked[i], asked[k], 0), "its differences");
+        }
+    }
+    require(yk_store_keep(&store, 0) == YK_NOT_TO_KEEP && yk_store_keep(&store, 1) == YK_TIME_AFTER_LAST,
+        "nothing to keep");
 }
 
 static void open_again(void) {
@@ -200,6 +264,7 @@ int main(void) {
     count_files(&store);
     open_again();
     not_lent();
+    no_requests();
     past_32_bits();
     lengths();
     words();

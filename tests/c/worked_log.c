@@ -105,6 +105,14 @@ static const uint8_t TABLE_60[TABLE] = {7, 0, 0, 0, 44, 0, 0, 0, 9, 0, 0, 0, 6};
 static const uint8_t FROM_20_TO_45[OUT] = {12, 0, 3, 0, 3, 0, 0, 0, 12, 0, 0, 0, 12, 0, 3, 0, 7, 0, 0, 0, 50, 0,
     0, 0, 12, 0, 2, 0, 7, 0, 0, 0, 44};
 
+/* From 20 to 60 and back; 61 and later times are answered as 60. */
+static const uint8_t FROM_20_TO_60[OUT] = {12, 0, 3, 0, 3, 0, 0, 0, 12, 0, 0, 0, 12, 0, 3, 0, 7, 0, 0, 0, 50, 0,
+    0, 0, 12, 0, 2, 0, 7, 0, 0, 0, 44, 0, 0, 0, 12, 0, 2, 0, 9, 0, 0, 0, 6};
+static const uint8_t FROM_60_TO_20[OUT] = {12, 0, 2, 0, 3, 0, 0, 0, 12, 0, 0, 0, 12, 0, 3, 0, 7, 0, 0, 0, 44, 0,
+    0, 0, 12, 0, 2, 0, 7, 0, 0, 0, 50, 0, 0, 0, 12, 0, 3, 0, 9, 0, 0, 0, 6};
+static const uint8_t FROM_69_TO_70[OUT] = {12, 0, 3, 0, 9, 0, 0, 0, 6}; /* with a deletion of 9 at 70 */
+static const uint8_t NO_ENTRIES[OUT] = {0};
+
 /* 01's numbers of the questions. */
 static void compare_constants(void) {
     static const int constants[][2] = {{YK_ACCEPTED, 0}, {YK_HEADER, 1}, {YK_ORDER, 2}, {YK_PAGE_SIZE, 3},
@@ -150,14 +158,17 @@ static void compare_log(const char *name) {
     require(memcmp(lent.log, written, LOG) == 0, "the log is the written one");
 }
 
+static bool position_is(uint64_t time, uint32_t page, uint32_t requests) {
+    yk_position_answer answer = yk_position(numbers, STORE, time);
+    return answer.question == YK_ACCEPTED && answer.page == page && answer.requests == requests;
+}
+
 static void compare_positions(void) {
-    static const uint64_t asked[8] = {0, 9, 10, 29, 30, 35, 40, 60};
-    static const uint32_t pages[8] = {0, 0, 0, 0, 1, 1, 2, 3};
-    static const uint32_t requests[8] = {0, 0, 1, 2, 4, 4, 5, 8};
-    for (int i = 0; i < 8; i++) {
-        yk_position_answer answer = yk_position(numbers, STORE, asked[i]);
-        require(answer.question == YK_ACCEPTED && answer.page == pages[i], "page of a position");
-        require(answer.requests == requests[i], "requests of a position");
+    static const uint64_t asked[10] = {0, 9, 10, 29, 30, 35, 40, 60, 61, UINT64_MAX};
+    static const uint32_t pages[10] = {0, 0, 0, 0, 1, 1, 2, 3, 3, 3};
+    static const uint32_t requests[10] = {0, 0, 1, 2, 4, 4, 5, 8, 8, 8};
+    for (int i = 0; i < 10; i++) {
+        require(position_is(asked[i], pages[i], requests[i]), "page and requests of a position");
     }
 }
 
@@ -169,22 +180,26 @@ static bool table_is(uint64_t time, const uint8_t *bytes, uint32_t rows, int lat
         && answer.requests_between == between && memcmp(out, bytes, TABLE) == 0 && out[TABLE] == 0xA5;
 }
 
-static void compare_net_changes(void) {
+/* Entries, output and workspace of a net change, and nothing is written past them. */
+static bool net_change_is(uint64_t a, uint64_t b, uint32_t entries, const uint8_t *list, const uint8_t *table_a,
+    const uint8_t *table_b) {
     uint8_t out[OUT + 1], work[WORK + 1];
     memset(out, 0xA5, sizeof out);
     memset(work, 0xA5, sizeof work);
-    yk_net_change_answer answer = yk_net_change(numbers, STORE, 20, 45, out, OUT, work, WORK);
-    require(answer.question == YK_ACCEPTED && answer.entries == 3, "net change 20 to 45 has three entries");
-    require(memcmp(out, FROM_20_TO_45, OUT) == 0, "net change 20 to 45");
-    require(memcmp(work, TABLE_20, TABLE) == 0 && memcmp(work + TABLE, TABLE_45, TABLE) == 0,
-        "workspace of 20 and 45");
-    answer = yk_net_change(numbers, STORE, 30, 35, out, OUT, work, WORK);
-    require(answer.question == YK_ACCEPTED && answer.entries == 0 && zero(out, OUT), "net change 30 to 35");
-    require(memcmp(work, TABLE_30, TABLE) == 0 && memcmp(work + TABLE, TABLE_30, TABLE) == 0,
-        "workspace of 30 and 35");
-    answer = yk_net_change(numbers, STORE, 10, 60, out, OUT, work, WORK);
+    yk_net_change_answer answer = yk_net_change(numbers, STORE, a, b, out, OUT, work, WORK);
+    return answer.question == YK_ACCEPTED && answer.entries == entries && memcmp(out, list, OUT) == 0
+        && memcmp(work, table_a, TABLE) == 0 && memcmp(work + TABLE, table_b, TABLE) == 0 && out[OUT] == 0xA5
+        && work[WORK] == 0xA5;
+}
+
+static void compare_net_changes(void) {
+    uint8_t out[OUT], work[WORK];
+    require(net_change_is(20, 45, 3, FROM_20_TO_45, TABLE_20, TABLE_45), "net change 20 to 45 has three entries");
+    require(net_change_is(30, 35, 0, NO_ENTRIES, TABLE_30, TABLE_30), "net change 30 to 35");
+    require(net_change_is(20, 60, 4, FROM_20_TO_60, TABLE_20, TABLE_60), "net change 20 to 60");
+    require(net_change_is(60, 20, 4, FROM_60_TO_20, TABLE_60, TABLE_20), "and back");
+    yk_net_change_answer answer = yk_net_change(numbers, STORE, 10, 60, out, OUT, work, WORK);
     require(answer.question == YK_ACCEPTED && answer.entries == 3, "net change 10 to 60, whose totals agree");
-    require(out[OUT] == 0xA5 && work[WORK] == 0xA5, "nothing is written past output and workspace");
 }
 
 /* ---- units on hand */
@@ -206,17 +221,18 @@ static bool difference_is(uint64_t a, uint64_t b, int64_t units) {
 
 /* The same whatever files are kept. */
 static void compare_units(void) {
-    static const uint64_t asked[10] = {0, 9, 10, 19, 20, 30, 40, 45, 50, 60};
-    static const int64_t units[10] = {0, 0, 50, 50, 62, 56, 44, 44, 49, 50};
-    for (int i = 0; i < 10; i++) {
+    static const uint64_t asked[12] = {0, 9, 10, 19, 20, 30, 40, 45, 50, 60, 61, UINT64_MAX};
+    static const int64_t units[12] = {0, 0, 50, 50, 62, 56, 44, 44, 49, 50, 50, 50};
+    for (int i = 0; i < 12; i++) {
         require(units_are(asked[i], (uint64_t)units[i]), "units of a time");
-        for (int k = 0; k < 10; k++) {
+        for (int k = 0; k < 12; k++) {
             require(difference_is(asked[i], asked[k], units[k] - units[i]), "units between two times");
         }
     }
     require(difference_is(20, 45, -18) && difference_is(45, 20, 18), "20 to 45 and back");
     require(difference_is(45, 50, 5), "45 to 50");
     require(difference_is(10, 60, 0) && difference_is(60, 10, 0), "10 to 60: the totals agree, the tables differ");
+    require(difference_is(20, 61, -12) && difference_is(61, 20, 12), "20 to 61, which is answered as 60, and back");
 }
 
 /* ---- count files and views */
@@ -289,6 +305,59 @@ static void keep_several(void) {
     require(keep(45) == YK_ACCEPTED && entry_is(3, 45, 1), "keep 45");
 }
 
+/* ---- times after the last */
+
+/* Each answer is that of 60: the rows come from the file of 60, in this area, or else from the current table. */
+static void late_times(int kept, uint32_t area) {
+    static const uint64_t asked[4] = {60, 61, 1000, UINT64_MAX};
+    for (int i = 0; i < 4; i++) {
+        require(position_is(asked[i], 3, 8), "position of a late time");
+        require(table_is(asked[i], TABLE_60, 2, !kept, 0), "table of a late time");
+        require(view_is(asked[i], kept ? YK_AREA : YK_CURRENT, area, 2, !kept, 0,
+                    kept ? lent.areas + area * TABLE : lent.table),
+            "view of a late time");
+        require(net_change_is(20, asked[i], 4, FROM_20_TO_60, TABLE_20, TABLE_60), "net change to a late time");
+        require(net_change_is(asked[i], 20, 4, FROM_60_TO_20, TABLE_60, TABLE_20), "net change from a late time");
+        for (int k = 0; k < 4; k++) {
+            require(net_change_is(asked[i], asked[k], 0, NO_ENTRIES, TABLE_60, TABLE_60), "both times late");
+        }
+    }
+}
+
+/* A file of the last time goes before the current table, here from area 0, then from area 1. */
+static void keep_last(void) {
+    late_times(false, 0);
+    require(keep(60) == YK_ACCEPTED && entry_is(0, 60, 2) && memcmp(lent.areas, TABLE_60, TABLE) == 0, "keep 60");
+    late_times(true, 0);
+    compare_units();
+    require(keep(20) == YK_ACCEPTED && entry_is(0, 20, 2) && entry_is(1, 60, 2), "keep 20 and 60");
+    late_times(true, 1);
+    compare_units();
+    require(audit(), "audit with the last time kept");
+    require(drop(60) == YK_ACCEPTED, "drop 60");
+    late_times(false, 0);
+    require(drop(20) == YK_ACCEPTED && numbers_are(3, 2, 4, 8, 60, 2, 0), "drop 20 again");
+}
+
+/* No request yet: every time is answered as time 0. */
+static void no_requests(void) {
+    static const uint64_t asked[3] = {0, 1, UINT64_MAX};
+    require(fresh(3, 2, LIMIT) == YK_ACCEPTED, "an empty store");
+    for (int i = 0; i < 3; i++) {
+        require(position_is(asked[i], 0, 0), "positions of an empty store");
+        require(table_is(asked[i], NO_ENTRIES, 0, 0, 0), "its tables");
+        require(view_is(asked[i], YK_EMPTY, 0, 0, 0, 0, lent.table), "its views");
+        require(units_are(asked[i], 0), "its units");
+        for (int k = 0; k < 3; k++) {
+            require(net_change_is(asked[i], asked[k], 0, NO_ENTRIES, NO_ENTRIES, NO_ENTRIES), "its net changes");
+            require(difference_is(asked[i], asked[k], 0), "its differences");
+        }
+    }
+    require(keep(0) == YK_NOT_TO_KEEP, "keep 0 in an empty store");
+    require(keep(1) == YK_TIME_AFTER_LAST && keep(UINT64_MAX) == YK_TIME_AFTER_LAST, "keep after time 0");
+    require(numbers_are(3, 2, 4, 0, 0, 0, 0) && audit(), "audit of the empty store");
+}
+
 /* One byte or number of the store damaged, seen by the audit, and mended. */
 static void damage(void) {
     uint8_t *bytes[4] = {lent.log + 24 + 20, (uint8_t *)lent.index, lent.table + 4, lent.areas + 3 * TABLE};
@@ -326,6 +395,10 @@ static void refuse_later_calls(void) {
     wrong.records--;
     REFUSED(yk_position(wrong, STORE, 0).question, YK_HEADER, "position with wrong numbers");
     REFUSED(yk_view(wrong, STORE, 0).question, YK_HEADER, "view with wrong numbers");
+    REFUSED(yk_position(wrong, STORE, 61).question, YK_HEADER, "position of 61 with wrong numbers");
+    REFUSED(yk_table(wrong, STORE, 61, out, 0).question, YK_HEADER, "table of 61 with wrong numbers");
+    REFUSED(yk_net_change(wrong, STORE, 61, 61, out, 0, work, 0).question, YK_HEADER,
+        "net change with wrong numbers");
     REFUSED(yk_units(wrong, STORE, 61).question, YK_HEADER, "units with wrong numbers");
     REFUSED(yk_units_between(wrong, STORE, 61, 61).question, YK_HEADER, "units between with wrong numbers");
     REFUSED(yk_keep(wrong, STORE, 30).question, YK_HEADER, "keep with wrong numbers");
@@ -340,22 +413,20 @@ static void refuse_later_calls(void) {
                 ENTRIES, lent.areas, AREAS, 61, 9)),
         YK_INDEX_FULL, "a delete without space for its node");
 
-    REFUSED(yk_position(numbers, STORE, 61).question, YK_TIME_AFTER_LAST, "position of 61");
-    REFUSED(yk_view(numbers, STORE, 61).question, YK_TIME_AFTER_LAST, "view of 61");
-    REFUSED(table(61, out).question, YK_TIME_AFTER_LAST, "table of 61");
-    REFUSED(yk_net_change(numbers, STORE, 20, 61, out, OUT, work, WORK).question, YK_TIME_AFTER_LAST,
-        "net change to 61");
-    REFUSED(yk_units(numbers, STORE, 61).question, YK_TIME_AFTER_LAST, "units of 61");
-    REFUSED(yk_units_between(numbers, STORE, 61, 20).question, YK_TIME_AFTER_LAST, "units from 61");
-    REFUSED(yk_units_between(numbers, STORE, 20, 61).question, YK_TIME_AFTER_LAST, "units to 61");
-    REFUSED(keep(61), YK_TIME_AFTER_LAST, "keep 61");
     REFUSED(yk_table(numbers, STORE, 20, out, TABLE - 1).question, YK_OUTPUT_SHORT, "a short output");
+    REFUSED(yk_table(numbers, STORE, 61, out, TABLE - 1).question, YK_OUTPUT_SHORT, "a short output for 61");
     REFUSED(yk_net_change(numbers, STORE, 20, 45, out, OUT - 1, work, WORK).question, YK_OUTPUT_SHORT,
         "a net change's short output");
     REFUSED(yk_net_change(numbers, STORE, 20, 45, out, OUT, work, WORK - 1).question, YK_OUTPUT_SHORT,
         "a short workspace");
+    REFUSED(yk_net_change(numbers, STORE, 61, 20, out, OUT - 1, work, WORK).question, YK_OUTPUT_SHORT,
+        "a net change's short output, from 61");
+    REFUSED(yk_net_change(numbers, STORE, 20, 61, out, OUT, work, WORK - 1).question, YK_OUTPUT_SHORT,
+        "a short workspace, to 61");
     require(zero(out, OUT) && zero(work, WORK), "a refusal leaves output and workspace");
 
+    REFUSED(keep(61), YK_TIME_AFTER_LAST, "keep 61: 12 goes before 15");
+    REFUSED(keep(UINT64_MAX), YK_TIME_AFTER_LAST, "keep the latest time");
     REFUSED(keep(0), YK_NOT_TO_KEEP, "keep 0");
     REFUSED(keep(45), YK_NOT_TO_KEEP, "keep 45 again");
     REFUSED(keep(30), YK_CATALOGUE_FULL, "keep a fifth file");
@@ -364,29 +435,45 @@ static void refuse_later_calls(void) {
 
 /* Where a refusal has zeros beside the question, and where a view's part is empty. */
 static void refused_answers(void) {
-    uint8_t out[TABLE];
-    yk_position_answer position = yk_position(numbers, STORE, 61);
-    yk_table_answer rows = table(61, out);
-    yk_view_answer view = yk_view(numbers, STORE, 61);
-    yk_part part = yk_view_part(view, lent.areas, lent.table);
-    require(position.page == 0 && position.requests == 0 && rows.rows == 0 && rows.later == 0
-            && rows.requests_between == 0,
-        "refused: zeros");
-    require(view.place == 0 && view.area == 0 && view.rows == 0 && view.later == 0 && view.requests_between == 0
-            && view.start == 0 && view.length == 0 && part.bytes == lent.table && part.length == 0,
-        "a refused view is empty");
-    require(yk_units(numbers, STORE, 61).units == 0 && yk_units_between(numbers, STORE, 61, 20).units == 0
-            && yk_units_between(numbers, STORE, 20, 61).units == 0,
-        "refused: no units");
+    uint8_t out[OUT], work[WORK];
     yk_numbers wrong = numbers;
     wrong.records--;
+    yk_position_answer position = yk_position(wrong, STORE, 45);
+    yk_table_answer rows = yk_table(wrong, STORE, 45, out, TABLE);
+    yk_view_answer view = yk_view(wrong, STORE, 45);
+    yk_part part = yk_view_part(view, lent.areas, lent.table);
+    require(position.question == YK_HEADER && position.page == 0 && position.requests == 0, "position: zeros");
+    require(rows.question == YK_HEADER && rows.rows == 0 && rows.later == 0 && rows.requests_between == 0,
+        "table: zeros");
+    require(view.question == YK_HEADER && view.place == 0 && view.area == 0 && view.rows == 0 && view.later == 0
+            && view.requests_between == 0 && view.start == 0 && view.length == 0 && part.bytes == lent.table
+            && part.length == 0,
+        "a refused view is empty");
     require(yk_units(wrong, STORE, 20).units == 0 && yk_units_between(wrong, STORE, 20, 45).units == 0,
         "wrong numbers: no units");
+    require(yk_net_change(wrong, STORE, 20, 45, out, OUT, work, WORK).entries == 0, "wrong numbers: no entries");
+    rows = yk_table(numbers, STORE, 61, out, TABLE - 1);
+    require(rows.question == YK_OUTPUT_SHORT && rows.rows == 0 && rows.later == 0 && rows.requests_between == 0,
+        "a short output: zeros");
+    yk_net_change_answer change = yk_net_change(numbers, STORE, 20, 61, out, OUT - 1, work, WORK);
+    require(change.question == YK_OUTPUT_SHORT && change.entries == 0, "a short output: no entries");
 }
 
-/* A ninth record: numbers that all differ. */
+/* A ninth record: numbers that all differ. Times that were late are answered anew: 69 still as 60, but for the
+ * request that now lies between it and the current table; 70 and later times without article 9. */
 static void delete_9(void) {
+    static const uint64_t asked[3] = {70, 71, UINT64_MAX};
+    require(table_is(69, TABLE_60, 2, 1, 0) && table_is(70, TABLE_60, 2, 1, 0), "69 and 70 are late");
     require(delete_article(70, 9) == YK_ACCEPTED && numbers_are(3, 2, 4, 9, 70, 1, 4), "delete 9 at 70");
+    require(position_is(69, 3, 8) && table_is(69, TABLE_60, 2, 1, 1) && units_are(69, 50), "69 is no longer late");
+    require(view_is(69, YK_CURRENT, 0, 1, 1, 1, lent.table), "view of 69");
+    for (int i = 0; i < 3; i++) {
+        require(position_is(asked[i], 4, 9) && units_are(asked[i], 44), "position and units after a ninth record");
+        require(table_is(asked[i], TABLE_45, 1, 1, 0), "table after a ninth record");
+        require(view_is(asked[i], YK_CURRENT, 0, 1, 1, 0, lent.table), "view after a ninth record");
+        require(difference_is(69, asked[i], -6), "9 went with its units");
+        require(net_change_is(69, asked[i], 1, FROM_69_TO_70, TABLE_60, TABLE_45), "and nothing else did");
+    }
     require(drop(5) == YK_ACCEPTED && drop(10) == YK_ACCEPTED && drop(45) == YK_ACCEPTED, "drop 5, 10 and 45");
     require(drop(20) == YK_ACCEPTED && numbers_are(3, 2, 4, 9, 70, 1, 0), "drop 20");
 }
@@ -434,7 +521,6 @@ static void start_anew(void) {
 static void pass_32_bits(void) {
     static const uint64_t units[7] = {0, 4294967295, 8589934590, 12884901885, 8589934590, 4294967295, 0};
     require(fresh(3, 2, LIMIT) == YK_ACCEPTED && units_are(0, 0) && difference_is(0, 0, 0), "no units yet");
-    require(yk_units(numbers, STORE, 1).question == YK_TIME_AFTER_LAST, "units after time 0");
     for (uint32_t k = 1; k <= 3; k++) {
         require(insert(k, k, UINT32_MAX) == YK_ACCEPTED && units_are(k, units[k]), "rows of the largest count");
     }
@@ -461,6 +547,7 @@ int main(int many, char **arguments) {
     compare_units();
     keep_none();
     keep_one();
+    keep_last();
     keep_several();
     damage();
     refuse_later_calls();
@@ -470,6 +557,7 @@ int main(int many, char **arguments) {
     delete_9();
     open_again();
     start_anew();
+    no_requests();
     pass_32_bits();
     puts("worked log: ok");
     return 0;

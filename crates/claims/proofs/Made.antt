@@ -85,14 +85,14 @@ answers-of st o =
     let three = demand-three st o in
     record {
       each = λ c said st'. carried-is (o .audited);
-      positions = λ t p st' h k. subst (PositionTells st t) (position-of (carried-is (o .audited) k .0)) (position-tells st (o .audited) t h);
-      tables = λ t out table st' h l k.
+      positions = λ t p st' k. subst (PositionTells st t) (position-of (carried-is (o .audited) k .0)) (position-tells st (o .audited) t);
+      tables = λ t out table st' l k.
           let is : tableOf st t out ≡ table = table-of (carried-is (o .audited) k .0) in
-          (subst (TableIsTimeslice st t) is (two .tables t out h l), subst (OutsetIsNearest st t) is (three .outsets t out h l));
-      net-changes = λ a b out work net st' h g l i k.
-          subst (NetChangeIs st a b) (net-of (carried-is (o .audited) k .0)) (three .net-changes a b out work h g l i);
-      units = λ t x st' h k. subst (UnitsTell st t) (total-of (carried-is (o .audited) k .0)) (units-tell st o t h);
-      differences = λ a b x st' h g k. subst (DifferenceTells st a b) (difference-of (carried-is (o .audited) k .0)) (difference-tells st o a b h g);
+          (subst (TableIsTimeslice st t) is (two .tables t out l), subst (OutsetIsNearest st t) is (three .outsets t out l));
+      net-changes = λ a b out work net st' l i k.
+          subst (NetChangeIs st a b) (net-of (carried-is (o .audited) k .0)) (three .net-changes a b out work l i);
+      units = λ t x st' k. subst (UnitsTell st t) (total-of (carried-is (o .audited) k .0)) (units-tell st o t);
+      differences = λ a b x st' k. subst (DifferenceTells st a b) (difference-of (carried-is (o .audited) k .0)) (difference-tells st o a b);
     }
 
 -- ---- the theorems

@@ -12,11 +12,12 @@ use Rattle.codec.specs.Parts.{zeros}
 use Rattle.model.specs.Answers.{answers, firstNo, TableSaid}
 use Rattle.model.specs.Memory.{State, logOf}
 use Rattle.model.specs.NetChange.{netChange, changesBytes, netChangeBytes}
-use Rattle.model.specs.Queries.{tableSaid, tableOf, rowsAt, netQuestions, netOf}
+use Rattle.model.specs.Queries.{answeredTime, tableSaid, tableOf, rowsAt, netQuestions, netOf}
 use Rattle.model.specs.Facts.{InOrder}
 use Rattle.model.specs.Demands.{SameTable, NetChangeIs}
 use Rattle.model.proofs.AuditLaws.{audited-facts, audited-sound}
 use Rattle.model.proofs.Compare.{and-both}
+use Rattle.model.proofs.LateLaws.{rows-as-asked}
 use Rattle.model.proofs.ReportLaws.{asc-timeslice}
 use Rattle.model.proofs.RowSets.{same-rows-true, same-rows-refl}
 use Rattle.rows.proofs.TableBytes.{table-bytes-injective}
@@ -34,37 +35,38 @@ said-of : {s s' : TableSaid} → answers s ≡ answers s' → s ≡ s'
 said-of e = cc
 
 -- they are the same exactly where their rows are
-module _ (st : State) (o : InOrder st) (a b : ℕ) (h : a ≤ st .numbers .last) (g : b ≤ st .numbers .last)
+module _ (st : State) (o : InOrder st) (a b : ℕ)
     (x y : List ℕ) (l : 8 * st .numbers .limit ≤ length x) (k : 8 * st .numbers .limit ≤ length y) where
   pub same-of-rows : rowsAt st a ≡ rowsAt st b → SameTable (st .numbers .limit) (tableOf st a x) (tableOf st b y)
   same-of-rows e =
+      let f = audited-facts st (o .audited) in
       record {
-        said = tableSaid st a;
-        said' = tableSaid st b;
-        answered = table-answered st a x (o .audited) h l;
-        answered' = table-answered st b y (o .audited) g k;
-        same-rows = ap length e;
-        same-bytes = table-stands st a x (o .audited) h l ∙ rw e (sym (table-stands st b y (o .audited) g k));
+        said = tableSaid st (answeredTime (st .numbers .last) a);
+        said' = tableSaid st (answeredTime (st .numbers .last) b);
+        answered = table-answered st a x (o .audited) l;
+        answered' = table-answered st b y (o .audited) k;
+        same-rows = ap length (rows-as-asked st f a ∙ e ∙ sym (rows-as-asked st f b));
+        same-bytes = table-stands st a x (o .audited) l ∙ rw e (sym (table-stands st b y (o .audited) k));
       }
 
   pub rows-of-same : SameTable (st .numbers .limit) (tableOf st a x) (tableOf st b y) → rowsAt st a ≡ rowsAt st b
   rows-of-same s =
-      let first : tableSaid st a ≡ s .said = said-of (sym (table-answered st a x (o .audited) h l) ∙ s .answered) in
-      let second : tableSaid st b ≡ s .said' = said-of (sym (table-answered st b y (o .audited) g k) ∙ s .answered') in
+      let f = audited-facts st (o .audited) in
+      let first : tableSaid st (answeredTime (st .numbers .last) a) ≡ s .said = said-of (sym (table-answered st a x (o .audited) l) ∙ s .answered) in
+      let second : tableSaid st (answeredTime (st .numbers .last) b) ≡ s .said' = said-of (sym (table-answered st b y (o .audited) k) ∙ s .answered') in
       let count : length (rowsAt st a) ≡ length (rowsAt st b) =
-      ap (λ (z : TableSaid). z .rows) first ∙ s .same-rows ∙ sym (ap (λ (z : TableSaid). z .rows) second) in
+      sym (ap length (rows-as-asked st f a)) ∙ ap (λ (z : TableSaid). z .rows) first ∙ s .same-rows ∙ sym (ap (λ (z : TableSaid). z .rows) second)
+      ∙ ap length (rows-as-asked st f b) in
       table-bytes-injective (st .numbers .limit) (rowsAt st a) (rowsAt st b) (rows-small st (o .lendable) a) (rows-small st (o .lendable) b) count
-      (sym (table-stands st a x (o .audited) h l) ∙ s .same-bytes ∙ table-stands st b y (o .audited) g k)
+      (sym (table-stands st a x (o .audited) l) ∙ s .same-bytes ∙ table-stands st b y (o .audited) k)
 
 -- ---- the net change
 
 module _ (st : State) (o : InOrder st) (a b : ℕ) (out work : List ℕ) where
-  pub net-accepted : a ≤ st .numbers .last → b ≤ st .numbers .last → 24 * st .numbers .limit ≤ length out → 16 * st .numbers .limit ≤ length work
-      → firstNo (netQuestions st a b out work) ≡ 0
-  net-accepted h g l k =
+  pub net-accepted : 24 * st .numbers .limit ≤ length out → 16 * st .numbers .limit ≤ length work → firstNo (netQuestions st out work) ≡ 0
+  net-accepted l k =
       let R = st .numbers .limit in
-      answered 0 _ _ (audited-sound st (o .audited))
-      (answered 11 _ _ (le-leb _ _ h) (answered 11 _ _ (le-leb _ _ g) (answered 12 _ [] (and-both (le-leb (24 * R) (length out) l) (le-leb (16 * R) (length work) k)) none-asked)))
+      answered 0 _ _ (audited-sound st (o .audited)) (answered 12 _ [] (and-both (le-leb (24 * R) (length out) l) (le-leb (16 * R) (length work) k)) none-asked)
 
   -- the entries fit the output
   pub net-fits : length (netChange (rowsAt st a) (rowsAt st b)) ≤ 2 * st .numbers .limit
@@ -72,11 +74,13 @@ module _ (st : State) (o : InOrder st) (a b : ℕ) (out work : List ℕ) where
       let f = audited-facts st (o .audited) in
       omega (arith, length-net-le (rowsAt st a) (rowsAt st b), rows-few st f a, rows-few st f b)
 
-  pub net-change-is : a ≤ st .numbers .last → b ≤ st .numbers .last → 24 * st .numbers .limit ≤ length out → 16 * st .numbers .limit ≤ length work
-      → NetChangeIs st a b (netOf st a b out work)
+  pub net-change-is : 24 * st .numbers .limit ≤ length out → 16 * st .numbers .limit ≤ length work → NetChangeIs st a b (netOf st a b out work)
   unfolding netOf
-  net-change-is h g l k =
-      let q = net-accepted h g l k in
+  net-change-is l k =
+      let q = net-accepted l k in
+      let f = audited-facts st (o .audited) in
+      let from = rows-as-asked st f a in
+      let to = rows-as-asked st f b in
       let R = st .numbers .limit in
       let A = rowsAt st a in
       let B = rowsAt st b in
@@ -85,26 +89,27 @@ module _ (st : State) (o : InOrder st) (a b : ℕ) (out work : List ℕ) where
       let changes = netChange A B in
       record {
         entries = changes;
-        answered = rw q;
-        stand = rw q (take-at (netChangeBytes R changes) (drop (0 + length (netChangeBytes R changes)) out) (24 * R) (length-net-bytes R changes net-fits));
+        answered = rw (q, from, to);
+        stand = rw (q, from, to) (take-at (netChangeBytes R changes) (drop (0 + length (netChangeBytes R changes)) out) (24 * R) (length-net-bytes R changes net-fits));
         none-iff-same = λ x y i j. (
-          (λ e. same-of-rows st o a b h g x y i j (same-rows-true A B (net-empty-iff-equal A B up up′ .0 e))),
-          λ s. net-empty-iff-equal A B up up′ .1 (rw (rows-of-same st o a b h g x y i j s) (same-rows-refl B)),
+          (λ e. same-of-rows st o a b x y i j (same-rows-true A B (net-empty-iff-equal A B up up′ .0 e))),
+          λ s. net-empty-iff-equal A B up up′ .1 (rw (rows-of-same st o a b x y i j s) (same-rows-refl B)),
         );
         leads-there = net-leads A B up up′;
         fewest = net-fewest A B up up′;
       }
 
   -- the entries can be read back from the output
-  pub net-reads-back : a ≤ st .numbers .last → b ≤ st .numbers .last → 24 * st .numbers .limit ≤ length out → 16 * st .numbers .limit ≤ length work
+  pub net-reads-back : 24 * st .numbers .limit ≤ length out → 16 * st .numbers .limit ≤ length work
       → let changes = netChange (rowsAt st a) (rowsAt st b) in changesIn (length changes) (netOf st a b out work .output) ≡ changes
   unfolding netOf netChangeBytes
-  net-reads-back h g l k =
-      let q = net-accepted h g l k in
+  net-reads-back l k =
+      let q = net-accepted l k in
+      let f = audited-facts st (o .audited) in
       let R = st .numbers .limit in
       let A = rowsAt st a in
       let B = rowsAt st b in
       let changes = netChange A B in
       let fit = net-entries-fit A B (asc-timeslice a (logOf st)) (asc-timeslice b (logOf st)) (rows-small st (o .lendable) a) (rows-small st (o .lendable) b) in
-      rw (q, append-assoc (changesBytes changes) (zeros (24 * R - 12 * length changes)) (drop (0 + length (netChangeBytes R changes)) out))
+      rw (q, rows-as-asked st f a, rows-as-asked st f b, append-assoc (changesBytes changes) (zeros (24 * R - 12 * length changes)) (drop (0 + length (netChangeBytes R changes)) out))
       (changes-read changes (zeros (24 * R - 12 * length changes) ++ drop (0 + length (netChangeBytes R changes)) out) fit)

@@ -8,37 +8,50 @@ use Rattle.model.specs.declared.Held.{Held}
 use Rattle.model.specs.declared.Chosen.{Chosen}
 use Rattle.model.specs.Memory.{State}
 use Rattle.model.specs.Outset.{held, filesHeld, currentTable, measure, between, earlierFor, laterFor, outsetFor}
-use Rattle.model.specs.Queries.{tableSaid, tableOf}
+use Rattle.model.specs.Between.{requestsBetween}
+use Rattle.model.specs.Queries.{answeredTime, tableSaid, tableOf}
 use Rattle.model.specs.Audit.{Audited}
 use Rattle.model.specs.Demands.{candidate, OutsetIsNearest}
+use Rattle.model.proofs.AuditLaws.{audited-facts}
 use Rattle.model.proofs.ChoiceLaws.{Choice, choice}
 use Rattle.model.proofs.BetweenLaws.{requests-rise, counts-between}
+use Rattle.model.proofs.LateLaws.{answered-le, between-as-asked}
 use Rattle.catalogue.proofs.Nearest.{nearest, chosen-held, chosen-between, chosen-later}
 use Rattle.claims.proofs.SecondDemands.{table-answered}
 
 module _ (st : State) (t : ℕ) where
+  -- the time answered
+  abbrev at : ℕ
+  at = answeredTime (st .numbers .last) t
+
   -- the outset used is the candidate on the side answered
-  pub outset-candidate : outsetFor st t .outset ≡ candidate st t (outsetFor st t .side)
+  pub outset-candidate : outsetFor st at .outset ≡ candidate st t (outsetFor st at .side)
   unfolding candidate
-  outset-candidate = by (outsetFor st t) (choice (measure st) t (earlierFor st t) (laterFor st t))
+  outset-candidate = by (outsetFor st at) (choice (measure st) at (earlierFor st at) (laterFor st at))
     where
-      by : (c : Chosen) → Choice (measure st) t (earlierFor st t) (laterFor st t) c → c .outset ≡ candidate st t (c .side)
+      by : (c : Chosen) → Choice (measure st) at (earlierFor st at) (laterFor st at) c → c .outset ≡ candidate st t (c .side)
       by c (Choice.later h) = refl
       by c (Choice.earlier h) = refl
 
-  pub outset-held : t ≤ st .numbers .last → List·Memᴰ (outsetFor st t .outset) (held st)
-  outset-held h = chosen-held (measure st) (requests-rise st) t (currentTable st) (filesHeld st) h
+  pub outset-held : List·Memᴰ (outsetFor st at .outset) (held st)
+  outset-held = chosen-held (measure st) (requests-rise st) at (currentTable st) (filesHeld st) (answered-le (st .numbers .last) t)
 
-  pub outset-nearest : t ≤ st .numbers .last → (x : Held) → List·Memᴰ x (held st) → outsetFor st t .between ≤ between (measure st) t x
-  outset-nearest h = nearest (measure st) (requests-rise st) t (currentTable st) (filesHeld st) h
+  pub outset-nearest : (x : Held) → List·Memᴰ x (held st) → outsetFor st at .between ≤ between (measure st) at x
+  outset-nearest = nearest (measure st) (requests-rise st) at (currentTable st) (filesHeld st) (answered-le (st .numbers .last) t)
 
-  pub outset-is-nearest : (out : List ℕ) → Audited st → t ≤ st .numbers .last → 8 * st .numbers .limit ≤ length out → OutsetIsNearest st t (tableOf st t out)
-  outset-is-nearest out ok h l =
+  pub outset-is-nearest : (out : List ℕ) → Audited st → 8 * st .numbers .limit ≤ length out → OutsetIsNearest st t (tableOf st t out)
+  unfolding candidate
+  outset-is-nearest out ok l =
+      let early = earlierFor st at in
+      let late = laterFor st at in
+      -- the requests between h and the time asked
+      let asked : (h : Held) → between (measure st) at h ≡ requestsBetween st t (h .time) =
+      λ h. counts-between st at h ∙ between-as-asked st (audited-facts st ok) t h in
       record {
-        said = tableSaid st t;
-        answered = table-answered st t out ok h l;
-        is-held = rw (← outset-candidate) (outset-held h);
-        reported = rw (← outset-candidate) (chosen-between (measure st) t (earlierFor st t) (laterFor st t) ∙ counts-between st t (outsetFor st t .outset));
-        nearest = λ c m. rw (← counts-between st t c) (outset-nearest h c m);
-        later-nearer = λ e. rw (← counts-between st t (earlierFor st t)) (chosen-later (measure st) t (earlierFor st t) (laterFor st t) e);
+        said = tableSaid st at;
+        answered = table-answered st t out ok l;
+        is-held = rw (← outset-candidate) outset-held;
+        reported = rw (← outset-candidate) (chosen-between (measure st) at early late ∙ asked (outsetFor st at .outset));
+        nearest = λ c m. rw (← asked c) (outset-nearest c m);
+        later-nearer = λ e. rw (← asked early) (chosen-later (measure st) at early late e);
       }

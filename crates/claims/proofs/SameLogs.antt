@@ -7,10 +7,11 @@ use lib.ListN.{length, drop}
 use Rattle.codec.proofs.PartLaws.{part-of-take}
 use Rattle.model.specs.Records.{recordsOf}
 use Rattle.model.specs.Memory.{State, logOf}
-use Rattle.model.specs.Queries.{rowsAt, tableSaid}
+use Rattle.model.specs.Queries.{answeredTime, rowsAt, tableSaid}
 use Rattle.model.specs.Facts.{InOrder}
 use Rattle.model.specs.Demands.{OneLog, OneTable}
 use Rattle.model.proofs.AuditLaws.{audited-facts}
+use Rattle.model.proofs.LateLaws.{rows-as-asked}
 use Rattle.log.specs.Headers.{HeaderReads}
 use Rattle.log.proofs.HeaderLaws.{header-read, header-fits-of-passable}
 use Rattle.log.proofs.RecordLists.{records-front}
@@ -41,18 +42,18 @@ module _ (st other : State) (o : InOrder st) (o′ : InOrder other) (one : OneLo
       ∙ ap (recordsOf (other .memory .log)) (one .same-count)
 
   pub one-table : OneTable st other
-  one-table t out out′ h l l′ =
+  one-table t out out′ l l′ =
       let R = st .numbers .limit in
       let limits : R ≡ other .numbers .limit = same-limit in
-      let last : st .numbers .last ≡ other .numbers .last = same-last in
-      let held : t ≤ other .numbers .last = omega arith in
       let long : 8 * other .numbers .limit ≤ length out′ = omega arith in
       let rows : rowsAt st t ≡ rowsAt other t = rw same-records in
+      let mine = rows-as-asked st (audited-facts st (o .audited)) t in
+      let theirs = rows-as-asked other (audited-facts other (o′ .audited)) t in
       record {
-        said = tableSaid st t;
-        said' = tableSaid other t;
-        answered = table-answered st t out (o .audited) h l;
-        answered' = table-answered other t out′ (o′ .audited) held long;
-        same-rows = ap length rows;
-        same-bytes = table-stands st t out (o .audited) h l ∙ rw (rows, limits) (sym (table-stands other t out′ (o′ .audited) held long));
+        said = tableSaid st (answeredTime (st .numbers .last) t);
+        said' = tableSaid other (answeredTime (other .numbers .last) t);
+        answered = table-answered st t out (o .audited) l;
+        answered' = table-answered other t out′ (o′ .audited) long;
+        same-rows = ap length (mine ∙ rows ∙ sym theirs);
+        same-bytes = table-stands st t out (o .audited) l ∙ rw (rows, limits) (sym (table-stands other t out′ (o′ .audited) long));
       }

@@ -1,7 +1,7 @@
 -- The second demand of a state in order: its tables are the report's timeslices, its index is the packed tree, and the
 -- written log opens alike in other memory. Assumes nothing.
 use Prim.Native.Nat.{ℕ, zero, suc, _+_, _-_, _*_, _≤_, _<_}
-use mathlib.Core.Path.{_≡_, refl, sym, ap, _∙_}
+use mathlib.Core.Path.{_≡_, sym, ap, _∙_}
 use mathlib.Core.List.{List, [], _∷_}
 use mathlib.Core.Bool.{true, _&&_}
 use native.Mathlib.Omega.{arith}
@@ -19,9 +19,10 @@ use Rattle.model.specs.Numbering.{nodeWord}
 use Rattle.model.specs.Tree.{treeOf, nodesOf, indexWords, withTree, Packed}
 use Rattle.model.specs.Memory.{Memory, State, Lendable, logOf, rowsNow, keysOf, sound, logLong, indexLong, tableLong}
 use Rattle.model.specs.Starts.{openQuestions, writtenLog, wellWritten, openedMemory, openedNumbers}
-use Rattle.model.specs.Queries.{tableQuestions, tableSaid, tableOf, rowsAt}
+use Rattle.model.specs.Queries.{answeredTime, tableQuestions, tableSaid, tableOf, rowsAt}
 use Rattle.model.specs.Audit.{Audited}
 use Rattle.model.specs.Demands.{TableIsTimeslice, HoldsLog, OpensAlike, DemandTwo}
+use Rattle.model.proofs.LateLaws.{rows-as-asked}
 use Rattle.model.proofs.ReportLaws.{asc-timeslice}
 use Rattle.model.proofs.ReportedLaws.{has-iff-report}
 use Rattle.tree.proofs.Packings.{tree-length}
@@ -37,32 +38,34 @@ use Rattle.claims.proofs.Opened.{open-state, open-accepted}
 
 -- ---- tables
 
-pub table-accepted : (st : State) (t : ℕ) (out : List ℕ) → Audited st → t ≤ st .numbers .last → 8 * st .numbers .limit ≤ length out → firstNo (tableQuestions st t out) ≡ 0
-table-accepted st t out a h l =
-    let held = leb t (st .numbers .last) in
+pub table-accepted : (st : State) (out : List ℕ) → Audited st → 8 * st .numbers .limit ≤ length out → firstNo (tableQuestions st out) ≡ 0
+table-accepted st out a l =
     let long = leb (8 * st .numbers .limit) (length out) in
-    answered 0 (sound st) (question 12 held ∷ question 13 long ∷ []) (audited-sound st a)
-    (answered 11 held (question 13 long ∷ []) (le-leb _ _ h) (answered 12 long [] (le-leb _ _ l) none-asked))
+    answered 0 (sound st) (question 13 long ∷ []) (audited-sound st a) (answered 12 long [] (le-leb _ _ l) none-asked)
 
-module _ (st : State) (t : ℕ) (out : List ℕ) (a : Audited st) (h : t ≤ st .numbers .last) (l : 8 * st .numbers .limit ≤ length out) where
-  pub table-answered : tableOf st t out .outcome ≡ answers (tableSaid st t)
+module _ (st : State) (t : ℕ) (out : List ℕ) (a : Audited st) (l : 8 * st .numbers .limit ≤ length out) where
+  pub table-answered : tableOf st t out .outcome ≡ answers (tableSaid st (answeredTime (st .numbers .last) t))
   unfolding tableOf
-  table-answered = rw (table-accepted st t out a h l)
+  table-answered = rw (table-accepted st out a l)
 
+  -- the rows are those of the time asked
   pub table-stands : take (8 * st .numbers .limit) (tableOf st t out .output) ≡ tableBytes (st .numbers .limit) (rowsAt st t)
   unfolding tableOf
-  table-stands = rw (table-accepted st t out a h l) (table-front (st .numbers .limit) (rowsAt st t) out (rows-few st (audited-facts st a) t))
+  table-stands =
+      let f = audited-facts st a in
+      rw (table-accepted st out a l, rows-as-asked st f t) (table-front (st .numbers .limit) (rowsAt st t) out (rows-few st f t))
 
   pub table-is-timeslice : TableIsTimeslice st t (tableOf st t out)
   table-is-timeslice =
+      let f = audited-facts st a in
       record {
-        said = tableSaid st t;
+        said = tableSaid st (answeredTime (st .numbers .last) t);
         rows = rowsAt st t;
         answered = table-answered;
-        counted = refl;
+        counted = ap length (rows-as-asked st f t);
         stand = table-stands;
         ascending = asc-timeslice t (logOf st);
-        rows-are = has-iff-report (st .numbers .limit) (logOf st) (audited-facts st a .log-legal) t;
+        rows-are = has-iff-report (st .numbers .limit) (logOf st) (f .log-legal) t;
       }
 
 -- ---- the index

@@ -12,8 +12,8 @@ use Rattle.claims.proofs.FilesHeld.{held-since-kept}
 pub demand-three : (st : State) → InOrder st → DemandThree st
 demand-three st o =
     record {
-      net-changes = λ a b out work h g l k. net-change-is st o a b out work h g l k;
-      outsets = λ t out h l. outset-is-nearest st t out (o .audited) h l;
+      net-changes = λ a b out work l k. net-change-is st o a b out work l k;
+      outsets = λ t out l. outset-is-nearest st t out (o .audited) l;
     }
 
 pub same-tables : SameTables

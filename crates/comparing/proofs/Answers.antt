@@ -15,10 +15,10 @@ use Rattle.model.specs.Memory.{State, logOf, sound}
 use Rattle.model.specs.Rows.{rowsBytes}
 use Rattle.model.specs.NetChange.{netChange, netChangeBytes, changesBytes}
 use Rattle.model.specs.Audit.{Audited}
-use Rattle.model.specs.Queries.{rowsAt, netOf, netQuestions}
+use Rattle.model.specs.Queries.{answeredTime, rowsAt, netOf, netQuestions}
 use Rattle.model.specs.Promises.{isRefused, NetChangePromise}
 use Rattle.model.proofs.AuditLaws.{audited-facts}
-use Rattle.model.proofs.PromiseLaws.{asked-refused, asked-answered, not-refused, beyond-same}
+use Rattle.model.proofs.PromiseLaws.{query-refused, query-answered, not-refused, beyond-same}
 use Rattle.model.proofs.TimeLaws.{timeslice-rows}
 use Rattle.catalogue.specs.declared.Catalogue.{Catalogue}
 use Rattle.catalogue.specs.Files.{Loaded}
@@ -31,12 +31,12 @@ use Rattle.comparing.proofs.Workspace.{first-rows, second-rows, rows-of
 module _ (st : State) (a b : ℕ) (out work : List ℕ) where
   -- ---- refusals
 
-  net-refused : (k : ℕ) → eqb (suc k) 1 ≡ not (sound st) → eqb (suc k) 17 ≡ false → firstNo (netQuestions st a b out work) ≡ suc k
+  net-refused : (k : ℕ) → eqb (suc k) 1 ≡ not (sound st) → eqb (suc k) 17 ≡ false → eqb (suc k) 12 ≡ false → firstNo (netQuestions st out work) ≡ suc k
       → NetChangePromise st a b out work (refuses (suc k)) out work
   unfolding netOf isRefused
-  net-refused k q n e =
+  net-refused k q n m e =
       record {
-        asked = asked-refused st (suc k) q n;
+        asked = query-refused st (suc k) q n m;
         refused = λ f. (refl, refl);
         output-framed = beyond-same _ out;
         workspace-framed = beyond-same _ work;
@@ -45,59 +45,56 @@ module _ (st : State) (a b : ℕ) (out work : List ℕ) where
 
   pub net-header : sound st ≡ false → NetChangePromise st a b out work (refuses 1) out work
   unfolding firstNo
-  net-header q = net-refused 0 (rw q) refl (rw q)
+  net-header q = net-refused 0 (rw q) refl refl (rw q)
 
-  pub net-first-late : sound st ≡ true → st .numbers .last < a → NetChangePromise st a b out work (refuses 12) out work
+  pub net-output-short : sound st ≡ true → length out < 24 * st .numbers .limit → NetChangePromise st a b out work (refuses 13) out work
   unfolding firstNo
-  net-first-late q h = net-refused 11 (rw q) refl (rw (q, lt-leb _ _ h))
+  net-output-short q l = net-refused 12 (rw q) refl refl (rw (q, lt-leb _ _ l))
 
-  pub net-second-late : sound st ≡ true → a ≤ st .numbers .last → st .numbers .last < b → NetChangePromise st a b out work (refuses 12) out work
-  unfolding firstNo
-  net-second-late q h g = net-refused 11 (rw q) refl (rw (q, le-leb _ _ h, lt-leb _ _ g))
-
-  pub net-output-short : sound st ≡ true → a ≤ st .numbers .last → b ≤ st .numbers .last → length out < 24 * st .numbers .limit
+  pub net-workspace-short : sound st ≡ true → 24 * st .numbers .limit ≤ length out → length work < 16 * st .numbers .limit
       → NetChangePromise st a b out work (refuses 13) out work
   unfolding firstNo
-  net-output-short q h g l = net-refused 12 (rw q) refl (rw (q, le-leb _ _ h, le-leb _ _ g, lt-leb _ _ l))
-
-  pub net-workspace-short : sound st ≡ true → a ≤ st .numbers .last → b ≤ st .numbers .last → 24 * st .numbers .limit ≤ length out
-      → length work < 16 * st .numbers .limit → NetChangePromise st a b out work (refuses 13) out work
-  unfolding firstNo
-  net-workspace-short q h g l m = net-refused 12 (rw q) refl (rw (q, le-leb _ _ h, le-leb _ _ g, le-leb _ _ l, lt-leb _ _ m))
+  net-workspace-short q l m = net-refused 12 (rw q) refl refl (rw (q, le-leb _ _ l, lt-leb _ _ m))
 
   -- ---- the answer
 
+  abbrev from : ℕ
+  from = answeredTime (st .numbers .last) a
+
+  abbrev to : ℕ
+  to = answeredTime (st .numbers .last) b
+
   module _ (c : Catalogue) (n : Both) (k : ℕ) (ws ys : List ℕ) (lw : length ws ≡ 16 * st .numbers .limit) (ly : length ys ≡ 24 * st .numbers .limit)
       (known : AreBytes (st .memory .log)) (has : Loaded (st .memory .catalogue) (st .numbers .files) c)
-      (both : BothWorkedOut (st .numbers) (st .memory .log) (st .memory .index) (st .memory .table) (st .memory .areas) c a b n ws)
+      (both : BothWorkedOut (st .numbers) (st .memory .log) (st .memory .index) (st .memory .table) (st .memory .areas) c from to n ws)
       (merged : Merges (part 0 (8 * n .first) (putMid 0 (16 * st .numbers .limit - 0) work ws))
       (part (8 * st .numbers .limit) (8 * n .second) (putMid 0 (16 * st .numbers .limit - 0) work ws)) k ys) where
     -- on audited memory the rows merged are those of the two tables
-    merged-rows : Audited st → (k ≡ length (netChange (rowsAt st a) (rowsAt st b))) × (ys ≡ netChangeBytes (st .numbers .limit) (netChange (rowsAt st a) (rowsAt st b)))
+    merged-rows : Audited st → (k ≡ length (netChange (rowsAt st from) (rowsAt st to))) × (ys ≡ netChangeBytes (st .numbers .limit) (netChange (rowsAt st from) (rowsAt st to)))
     unfolding netChangeBytes
     merged-rows ok =
         let R = st .numbers .limit in
-        let A = rowsAt st a in
-        let B = rowsAt st b in
-        let few : length A ≤ R = timeslice-rows R (logOf st) (audited-facts st ok .log-legal) a in
+        let A = rowsAt st from in
+        let B = rowsAt st to in
+        let few : length A ≤ R = timeslice-rows R (logOf st) (audited-facts st ok .log-legal) from in
         let is = both .on (st .memory .catalogue) has ok in
         let e = front-back (16 * R) work ws lw in
         let first : part 0 (8 * n .first) (put work 0 ws) ≡ rowsBytes A = rw (is .0, is .1) (first-rows R A B _) in
         let second : part (8 * R) (8 * n .second) (put work 0 ws) ≡ rowsBytes B = rw (is .0, is .1) (second-rows R A B _ few) in
-        let m = (rw e at merged) .on A B (rows-of-time st a known first) (rows-of-time st b known second) in
+        let m = (rw e at merged) .on A B (rows-of-time st from known first) (rows-of-time st to known second) in
         (m .0, m .1 ∙ ap (λ (l : ℕ). changesBytes (netChange A B) ++ zeros (l - 12 * length (netChange A B))) ly)
 
-    pub net-answers : sound st ≡ true → a ≤ st .numbers .last → b ≤ st .numbers .last → 24 * st .numbers .limit ≤ length out → 16 * st .numbers .limit ≤ length work
+    pub net-answers : sound st ≡ true → 24 * st .numbers .limit ≤ length out → 16 * st .numbers .limit ≤ length work
         → NetChangePromise st a b out work (answers k) (putMid 0 (24 * st .numbers .limit - 0) out ys) (putMid 0 (16 * st .numbers .limit - 0) work ws)
     unfolding netOf firstNo isRefused
-    net-answers q h g l m =
+    net-answers q l m =
         record {
-          asked = asked-answered st k q;
+          asked = query-answered st k q;
           refused = λ e. not-refused e;
           output-framed = lent-beyond _ out ys l ly;
           workspace-framed = lent-beyond _ work ws m lw;
           audited = λ ok.
               let is = both .on (st .memory .catalogue) has ok in
               let r = merged-rows ok in
-              rw (front-back (24 * st .numbers .limit) out ys ly, front-back (16 * st .numbers .limit) work ws lw, q, le-leb _ _ h, le-leb _ _ g, le-leb _ _ l, le-leb _ _ m, r .0, r .1, is .1);
+              rw (front-back (24 * st .numbers .limit) out ys ly, front-back (16 * st .numbers .limit) work ws lw, q, le-leb _ _ l, le-leb _ _ m, r .0, r .1, is .1);
         }

@@ -14,7 +14,7 @@ use Rattle.catalogue.specs.Files.{Loaded}
 use Rattle.tables.specs.Ways.{Ready}
 use Rattle.comparing.specs.declared.Both.{Both}
 
--- what question 1 tells of numbers, log and index, question 12 of a and b, and a workspace of two tables
+-- what question 1 tells of numbers, log and index, two times up to the last, and a workspace of two tables
 pub record BothReady (s : Numbers) (log index a b work : ℕ) : Type 0 where
   pub first-ready : Ready s log index a (8 * s .limit)
   pub second-ready : Ready s log index b (8 * s .limit)

@@ -90,12 +90,6 @@ pub fn net_change<'a>(
     if limits::is_sound(s, log, index.len(), current.len(), c.lent, areas.len()) {} else {
         return NetChangeAnswer::Refused(Refusal::Header);
     }
-    if s.last < a {
-        return NetChangeAnswer::Refused(Refusal::TimeAfterLast);
-    }
-    if s.last < b {
-        return NetChangeAnswer::Refused(Refusal::TimeAfterLast);
-    }
     let size = 24 * (s.limit as usize);
     if out.len() < size {
         return NetChangeAnswer::Refused(Refusal::OutputShort);
@@ -104,7 +98,9 @@ pub fn net_change<'a>(
     if work.len() < space {
         return NetChangeAnswer::Refused(Refusal::OutputShort);
     }
-    let n = work_out_both(s, log, index, current, areas, c, a, b, &mut work[0..space]);
+    let from = tables::answered_time(s.last, a);
+    let to = tables::answered_time(s.last, b);
+    let n = work_out_both(s, log, index, current, areas, c, from, to, &mut work[0..space]);
     let k = merge_both(s.limit, n, work, &mut out[0..size]);
     NetChangeAnswer::Entries(k as u32)
 }

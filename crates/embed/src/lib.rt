@@ -22,13 +22,13 @@ use numbered::answer::YkUnits;
 use numbered::needed::YkLengths;
 use numbered::outset::YkView;
 
-// 0.3.0, as the header and the Rust crate have it: 65,536 × major + 256 × minor + patch.
-const VERSION: u32 = 768;
+// 0.4.0, as the header and the Rust crate have it: 65,536 × major + 256 × minor + patch.
+const VERSION: u32 = 1024;
 
 // The version of the archive.
 #[no_mangle]
 pub extern "C" fn yk_version() -> u32
-    ensures { λ r. ⌜ r ≡ 0 * 65536 + 3 * 256 + 0 ⌝ }
+    ensures { λ r. ⌜ r ≡ 0 * 65536 + 4 * 256 + 0 ⌝ }
 {
     VERSION
 }

@@ -122,10 +122,10 @@ module _ (d N R n f : ℕ) (l : Lengths) (a : Answered d N R n f l) where
           le-ltb (st .numbers .files) (capacityOf (st .numbers .limit) m) (omega arith),
         )
 
-    net-short : (x y : ℕ) (out work : List ℕ) → x ≤ st .numbers .last → y ≤ st .numbers .last
+    net-short : (x y : ℕ) (out work : List ℕ)
         → (length out < lent .output) ⊎ (length work < lent .workspace) → netOf st x y out work .outcome ≡ refuses 13
     unfolding netOf firstNo
-    net-short x y out work hx hy h = rw (first, le-leb x (st .numbers .last) hx, le-leb y (st .numbers .last) hy, no h)
+    net-short x y out work h = rw (first, no h)
       where
         r : ℕ
         r = st .numbers .limit

@@ -1,6 +1,6 @@
 -- Where the lengths answered are lent, no call is refused for want of memory: of each question that asks for memory the answer is
 -- yes, and a refusal by any other is none of these. Assumes nothing.
-use Prim.Native.Nat.{ℕ, zero, suc, _+_, _*_, _≤_, _<_}
+use Prim.Native.Nat.{ℕ, _+_, _*_, _≤_, _<_}
 use mathlib.Core.Path.{_≡_, refl, sym, ap, _∙_}
 use mathlib.Core.List.{List, [], _∷_}
 use mathlib.Core.Bool.{Bool, true, false, cond, _&&_, false≢true}
@@ -10,19 +10,20 @@ use lib.IntN.{ℤ}
 use lib.Dec.{leb}
 use borrow.Author.Tests.{le-leb, lt-ltb}
 use Rattle.model.specs.declared.Position.{Position}
-use Rattle.model.specs.Answers.{Outcome, answers, refuses, refusesAt, Question, firstNo, unlessNo, TableSaid, OutsetSaid}
+use Rattle.model.specs.Answers.{Outcome, answers, refuses, refusesAt, Question, firstNo, TableSaid, OutsetSaid}
 use Rattle.model.specs.Settings.{recordsInRange}
 use Rattle.model.specs.Pages.{indexNeed}
-use Rattle.model.specs.Memory.{Memory, State, capacityOf, logLong, indexLong, tableLong}
+use Rattle.model.specs.Memory.{Memory, State, standing, capacityOf, logLong, indexLong, tableLong}
 use Rattle.model.specs.Starts.{After, after, notStarted, freshOf, openQuestions, wellWritten, openOf}
 use Rattle.model.specs.Changes.{unchanged, roomFor, insertQuestions, presentQuestions, insertOf, deleteOf, updateOf}
-use Rattle.model.specs.Queries.{Written, Viewed, Netted, timeQuestions, tableQuestions, netQuestions, positionOf, tableOf, viewOf, netOf}
+use Rattle.model.specs.Queries.{Written, Viewed, Netted, tableQuestions, netQuestions, positionOf, tableOf, viewOf, netOf}
 use Rattle.model.specs.Files.{keepQuestions, keepOf, dropQuestions, dropOf}
 use Rattle.model.specs.Promises.{refusedBy}
-use Rattle.model.specs.Units.{unitsOf, differenceQuestions, differenceOf}
+use Rattle.model.specs.Units.{unitsOf, differenceOf}
 use Rattle.model.specs.Calls.{Call, answerOf, Accepted}
 use Rattle.model.proofs.Compare.{and-both}
 use Rattle.model.proofs.AuditLaws.{within-capacity}
+use Rattle.model.proofs.PromiseLaws.{unless}
 use Rattle.pages.proofs.PagedLaws.{index-need-mono}
 use Rattle.lending.specs.declared.Lengths.{Lengths}
 use Rattle.lending.specs.Lengths.{lengthsFor, lengthsOf}
@@ -53,12 +54,6 @@ supplied A (q ∷ qs) h = by (supplied A qs) (q .yes) refl (lacking {A = Unit} (
     by ih true e false ew h = rw e (ih h)
     by ih false e true ew h = absurd (false≢true (sym e ∙ h .0))
     by ih false e false ew h = rw e ew
-
--- nor does what is done lack anything
-unless : {B : Type 0} (lacks : B → Bool) (k : ℕ) (done : B) (refused : ℕ → B) → lacks done ≡ false → lacks (refused k) ≡ false
-    → lacks (unlessNo k done refused) ≡ false
-unless lacks zero done refused h g = h
-unless lacks (suc k) done refused h g = g
 
 abbrev changeLacks : After → Bool
 changeLacks r = lacking (r .outcome)
@@ -102,19 +97,19 @@ module _ (d N R n f : ℕ) (l : Lengths) (a : Answered d N R n f l) where
     call (Call.update t x c) h =
         unless changeLacks (firstNo (presentQuestions st t x 2)) _ (unchanged st) refl (supplied Unit (presentQuestions st t x 2) (room 2 h))
     call (Call.position t) h =
-        unless (λ (r : Outcome Position). lacking r) (firstNo (timeQuestions st t)) _ refuses refl (supplied Position (timeQuestions st t) tt)
+        unless (λ (r : Outcome Position). lacking r) (firstNo (standing st)) _ refuses refl (supplied Position (standing st) tt)
     call (Call.table t out) h =
-        unless (λ (r : Written TableSaid). lacking (r .outcome)) (firstNo (tableQuestions st t out)) _ _ refl
-        (supplied TableSaid (tableQuestions st t out) (long 8 (length out) (omega arith), tt))
+        unless (λ (r : Written TableSaid). lacking (r .outcome)) (firstNo (tableQuestions st out)) _ _ refl
+        (supplied TableSaid (tableQuestions st out) (long 8 (length out) (omega arith), tt))
     call (Call.view t) h =
-        unless (λ (r : Viewed). lacking (r .outcome)) (firstNo (timeQuestions st t)) _ _ refl (supplied OutsetSaid (timeQuestions st t) tt)
+        unless (λ (r : Viewed). lacking (r .outcome)) (firstNo (standing st)) _ _ refl (supplied OutsetSaid (standing st) tt)
     call (Call.netChange x y out work) h =
-        unless (λ (r : Netted). lacking (r .outcome)) (firstNo (netQuestions st x y out work)) _ _ refl
-        (supplied ℕ (netQuestions st x y out work)
+        unless (λ (r : Netted). lacking (r .outcome)) (firstNo (netQuestions st out work)) _ _ refl
+        (supplied ℕ (netQuestions st out work)
         (and-both (long 24 (length out) (omega (arith, h .0))) (long 16 (length work) (omega (arith, h .1))), tt))
-    call (Call.units t) h = unless (λ (r : Outcome ℕ). lacking r) (firstNo (timeQuestions st t)) _ refuses refl (supplied ℕ (timeQuestions st t) tt)
+    call (Call.units t) h = unless (λ (r : Outcome ℕ). lacking r) (firstNo (standing st)) _ refuses refl (supplied ℕ (standing st) tt)
     call (Call.difference x y) h =
-        unless (λ (r : Outcome ℤ). lacking r) (firstNo (differenceQuestions st x y)) _ refuses refl (supplied ℤ (differenceQuestions st x y) tt)
+        unless (λ (r : Outcome ℤ). lacking r) (firstNo (standing st)) _ refuses refl (supplied ℤ (standing st) tt)
     call (Call.keep t) h =
         unless changeLacks (firstNo (keepQuestions st t)) _ (unchanged st) refl (supplied Unit (keepQuestions st t) (lt-ltb _ _ (free h), tt))
     call (Call.drop t) h = unless changeLacks (firstNo (dropQuestions st t)) _ (unchanged st) refl (supplied Unit (dropQuestions st t) tt)

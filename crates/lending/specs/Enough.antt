@@ -112,5 +112,4 @@ pub record NoLess (d N R n f : ℕ) (l : Lengths) : Type 0 where
       → isKept t (filesOf st) ≡ false → (length (st .memory .catalogue) < l .entries) ⊎ (length (st .memory .areas) < l .areas)
       → keepOf st t .outcome ≡ refuses 15
   pub net-change : (st : State) (a b : ℕ) (out work : List ℕ) → SettingsAre d N R (st .numbers) → sound st ≡ true
-      → a ≤ st .numbers .last → b ≤ st .numbers .last
       → (length out < l .output) ⊎ (length work < l .workspace) → netOf st a b out work .outcome ≡ refuses 13

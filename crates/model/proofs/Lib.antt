@@ -23,4 +23,6 @@ pub mod FirstWrongLaws
 pub mod AuditLaws
 pub mod UnitsLaws
 pub mod SignedLaws
+pub mod LateLaws
+pub mod KeepAlone
 pub mod FileLaws

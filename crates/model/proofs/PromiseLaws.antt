@@ -1,5 +1,5 @@
 -- Laws of the form of a promise: what each outcome says of the standing questions, and frames. Assumes nothing.
-use Prim.Native.Nat.{ℕ, _+_, _-_, _*_, _/_, _≤_, _<_}
+use Prim.Native.Nat.{ℕ, zero, suc, _+_, _-_, _*_, _/_, _≤_, _<_}
 use mathlib.Core.Path.{_≡_, refl, sym, ap, _∙_}
 use mathlib.Core.Logic.{_⊎_, inl, inr}
 use mathlib.Core.List.{List}
@@ -10,11 +10,11 @@ use lib.ListN.{getD}
 use lib.Seq.{getD-drop}
 use lib.Dec.{eqb, ltb}
 use borrow.Author.Tests.{ltb-true, ltb-false}
-use Rattle.model.specs.Answers.{answers, refuses, firstNo}
+use Rattle.model.specs.Answers.{answers, refuses, firstNo, unlessNo}
 use Rattle.model.specs.Numbering.{nodeWord}
 use Rattle.model.specs.Tree.{Outside, NodesFrame}
 use Rattle.model.specs.Memory.{State, sound}
-use Rattle.model.specs.Promises.{refusedBy, refusedAmong, Asked, Beyond}
+use Rattle.model.specs.Promises.{refusedBy, refusedAmong, Asked, QueryAsked, Beyond}
 
 -- ---- the standing questions
 
@@ -29,6 +29,21 @@ asked-refused st k q n = record { standing-first = rw q (by (sound st)); never-1
 pub asked-answered : {A : Type 0} (st : State) (x : A) → sound st ≡ true → Asked st (answers x)
 unfolding refusedBy refusedAmong firstNo
 asked-answered st x q = record { standing-first = rw q; never-17 = refl }
+
+-- of a query: 1 and 13 are not 12 either
+pub query-refused : {A : Type 0} (st : State) (k : ℕ) → eqb k 1 ≡ not (sound st) → eqb k 17 ≡ false → eqb k 12 ≡ false → QueryAsked {A = A} st (refuses k)
+unfolding refusedBy
+query-refused st k q n m = record { asked = asked-refused st k q n; never-12 = m }
+
+pub query-answered : {A : Type 0} (st : State) (x : A) → sound st ≡ true → QueryAsked st (answers x)
+unfolding refusedBy
+query-answered st x q = record { asked = asked-answered st x q; never-12 = refl }
+
+-- what a test says neither of the call done nor of its refusal, it does not say of the call
+pub unless : {B : Type 0} (test : B → Bool) (k : ℕ) (done : B) (refused : ℕ → B) → test done ≡ false → test (refused k) ≡ false
+    → test (unlessNo k done refused) ≡ false
+unless test zero done refused h g = h
+unless test (suc k) done refused h g = g
 
 -- what follows from a refusal where there is none: `isRefused (answers x)` computes to false
 pub not-refused : {X : Type 0} → false ≡ true → X

@@ -25,7 +25,7 @@ use Rattle.model.specs.Between.{requestsBetween}
 use Rattle.model.specs.NetChange.{Change, netChangeBytes, leads}
 use Rattle.model.specs.Starts.{openOf}
 use Rattle.model.specs.Positions.{PageAndCount}
-use Rattle.model.specs.Queries.{Written, Netted, positionOf, tableOf, rowsAt, netOf}
+use Rattle.model.specs.Queries.{answeredTime, Written, Netted, positionOf, tableOf, rowsAt, netOf}
 use Rattle.model.specs.Files.{filesOf, isKept, keepOf, dropOf}
 use Rattle.model.specs.Audit.{Audited}
 use Rattle.model.specs.Units.{unitsOf, differenceOf, UnitsTell, DifferenceTells}
@@ -51,8 +51,9 @@ AuditExact = (st : State) → Passable (st .numbers) → Lendable (st .memory) �
 
 -- ---- demand 2
 
--- "the table for a time up to the last request is the report's timeslice of the log": the call is accepted, it answers
--- the number of the rows that it writes, zeros behind them, they ascend, and they are those of the report's set
+-- "the table for a time … is the report's timeslice of the log", for every time since 02's wish 2: the call is accepted, it
+-- answers the number of the rows that it writes, zeros behind them, they ascend, and they are those of the report's set
+-- for the time asked
 pub record TableIsTimeslice (st : State) (t : ℕ) (table : Written TableSaid) : Type 0 where
   pub said : TableSaid
   pub rows : List Row
@@ -85,7 +86,7 @@ pub record OpensAlike (st : State) (m : Memory) : Type 0 where
       take k (openOf m .state .memory .table) ≡ take k (st .memory .table)
 
 pub record DemandTwo (st : State) : Type 0 where
-  pub tables : (t : ℕ) (out : List ℕ) → t ≤ st .numbers .last → 8 * st .numbers .limit ≤ length out → TableIsTimeslice st t (tableOf st t out)
+  pub tables : (t : ℕ) (out : List ℕ) → 8 * st .numbers .limit ≤ length out → TableIsTimeslice st t (tableOf st t out)
   pub index : IndexIsPacked st
   pub reopened : (m : Memory) → Lendable m → HoldsLog st m → OpensAlike st m
 
@@ -116,10 +117,10 @@ pub record NetChangeIs (st : State) (a b : ℕ) (net : Netted) : Type 0 where
   pub leads-there : leads entries (rowsAt st a) (rowsAt st b) ≡ true
   pub fewest : (others : List Change) → leads others (rowsAt st a) (rowsAt st b) ≡ true → length entries ≤ length others
 
--- the candidate on a side
+-- the candidate on a side, for the time answered
 unfoldable pub candidate : State → ℕ → Side → Held
-candidate st t Earlier = earlierFor st t
-candidate st t Later = laterFor st t
+candidate st t Earlier = earlierFor st (answeredTime (st .numbers .last) t)
+candidate st t Later = laterFor st (answeredTime (st .numbers .last) t)
 
 -- every other outset then held has at least as many requests between it and the wanted time as the one used, whose
 -- number is the one reported: "Every other outset then held lies at least as many log pages from the wanted time as the
@@ -131,22 +132,21 @@ pub record OutsetIsNearest (st : State) (t : ℕ) (table : Written TableSaid) : 
   pub reported : said .between ≡ requestsBetween st t (candidate st t (said .side) .time)
   pub nearest : (h : Held) → List·Memᴰ h (held st) → said .between ≤ requestsBetween st t (h .time)
   -- "the earlier one on a tie"
-  pub later-nearer : said .side ≡ Later → said .between < requestsBetween st t (earlierFor st t .time)
+  pub later-nearer : said .side ≡ Later → said .between < requestsBetween st t (candidate st t Earlier .time)
 
 pub record DemandThree (st : State) : Type 0 where
-  pub net-changes : (a b : ℕ) (out work : List ℕ) → a ≤ st .numbers .last → b ≤ st .numbers .last
-      → 24 * st .numbers .limit ≤ length out → 16 * st .numbers .limit ≤ length work → NetChangeIs st a b (netOf st a b out work)
-  pub outsets : (t : ℕ) (out : List ℕ) → t ≤ st .numbers .last → 8 * st .numbers .limit ≤ length out → OutsetIsNearest st t (tableOf st t out)
+  pub net-changes : (a b : ℕ) (out work : List ℕ) → 24 * st .numbers .limit ≤ length out → 16 * st .numbers .limit ≤ length work → NetChangeIs st a b (netOf st a b out work)
+  pub outsets : (t : ℕ) (out : List ℕ) → 8 * st .numbers .limit ≤ length out → OutsetIsNearest st t (tableOf st t out)
 
 -- "One log means the same header and the same n records, byte for byte"
 pub record OneLog (st other : State) : Type 0 where
   pub same-count : st .numbers .records ≡ other .numbers .records
   pub same-bytes : take (24 + 24 * st .numbers .records) (st .memory .log) ≡ take (24 + 24 * st .numbers .records) (other .memory .log)
 
--- for each time up to the last, two stores answer the same table
+-- for each time two stores answer the same table
 abbrev pub OneTable : State → State → Type 0
 OneTable st other =
-    (t : ℕ) (out out' : List ℕ) → t ≤ st .numbers .last → 8 * st .numbers .limit ≤ length out → 8 * st .numbers .limit ≤ length out'
+    (t : ℕ) (out out' : List ℕ) → 8 * st .numbers .limit ≤ length out → 8 * st .numbers .limit ≤ length out'
     → SameTable (st .numbers .limit) (tableOf st t out) (tableOf other t out')
 
 -- "Whichever count files were kept or deleted, two such lists of calls that leave one log give the same table"
@@ -194,14 +194,14 @@ pub record PositionTells (st : State) (t : ℕ) (o : Outcome Position) : Type 0 
   pub tied : PageAndCount (st .numbers .page) (logOf st) t said
 
 abbrev pub PositionsTell : Type 0
-PositionsTell = AfterEveryList (λ st. (t : ℕ) → t ≤ st .numbers .last → PositionTells st t (positionOf st t))
+PositionsTell = AfterEveryList (λ st. (t : ℕ) → PositionTells st t (positionOf st t))
 
 -- ---- units (02, wish 1)
 
--- of every time up to the last, and of every two of them
+-- of every time, and of every two
 pub record UnitsHold (st : State) : Type 0 where
-  pub totals : (t : ℕ) → t ≤ st .numbers .last → UnitsTell st t (unitsOf st t)
-  pub differences : (a b : ℕ) → a ≤ st .numbers .last → b ≤ st .numbers .last → DifferenceTells st a b (differenceOf st a b)
+  pub totals : (t : ℕ) → UnitsTell st t (unitsOf st t)
+  pub differences : (a b : ℕ) → DifferenceTells st a b (differenceOf st a b)
 
 -- after every list of calls
 abbrev pub UnitsTold : Type 0
@@ -213,15 +213,13 @@ UnitsTold = AfterEveryList UnitsHold
 -- positions and units tell what they must
 pub record AnswersOf (st : State) : Type 0 where
   pub each : (c : Call) (said : Said) (st' : State) → Carried st c said st' → (said ≡ answerOf st c) × (st' ≡ step st c)
-  pub positions : (t : ℕ) (o : Outcome Position) (st' : State) → t ≤ st .numbers .last → Carried st (Call.position t) (positioned o) st' → PositionTells st t o
-  pub tables : (t : ℕ) (out : List ℕ) (table : Written TableSaid) (st' : State) → t ≤ st .numbers .last → 8 * st .numbers .limit ≤ length out
+  pub positions : (t : ℕ) (o : Outcome Position) (st' : State) → Carried st (Call.position t) (positioned o) st' → PositionTells st t o
+  pub tables : (t : ℕ) (out : List ℕ) (table : Written TableSaid) (st' : State) → 8 * st .numbers .limit ≤ length out
       → Carried st (Call.table t out) (written table) st' → TableIsTimeslice st t table × OutsetIsNearest st t table
-  pub net-changes : (a b : ℕ) (out work : List ℕ) (net : Netted) (st' : State) → a ≤ st .numbers .last → b ≤ st .numbers .last
-      → 24 * st .numbers .limit ≤ length out → 16 * st .numbers .limit ≤ length work
+  pub net-changes : (a b : ℕ) (out work : List ℕ) (net : Netted) (st' : State) → 24 * st .numbers .limit ≤ length out → 16 * st .numbers .limit ≤ length work
       → Carried st (Call.netChange a b out work) (netted net) st' → NetChangeIs st a b net
-  pub units : (t : ℕ) (o : Outcome ℕ) (st' : State) → t ≤ st .numbers .last → Carried st (Call.units t) (totalled o) st' → UnitsTell st t o
-  pub differences : (a b : ℕ) (o : Outcome ℤ) (st' : State) → a ≤ st .numbers .last → b ≤ st .numbers .last
-      → Carried st (Call.difference a b) (differed o) st' → DifferenceTells st a b o
+  pub units : (t : ℕ) (o : Outcome ℕ) (st' : State) → Carried st (Call.units t) (totalled o) st' → UnitsTell st t o
+  pub differences : (a b : ℕ) (o : Outcome ℤ) (st' : State) → Carried st (Call.difference a b) (differed o) st' → DifferenceTells st a b o
 
 -- whatever list of calls is made from an accepted fresh store or opening: the store is what `run` gives, the audit says
 -- yes to it, and demands 2 and 3 hold of it and of what the next call on it answers

@@ -4,7 +4,7 @@ use Prim.Native.Nat.{ℕ, suc, _+_, _-_, _*_}
 use mathlib.Core.List.{List, [], _∷_, _++_, map}
 use mathlib.Core.Bool.{Bool, false, not, cond, _&&_, _||_}
 use lib.ListN.{length, take, replicate}
-use lib.Dec.{ltb, eqb}
+use lib.Dec.{leb, ltb, eqb}
 use Rattle.codec.specs.Parts.{zeros, put, part}
 use Rattle.model.specs.declared.Numbers.{Numbers}
 use Rattle.model.specs.declared.Entry.{Entry}
@@ -13,7 +13,7 @@ use Rattle.model.specs.Rows.{tableBytes}
 use Rattle.model.specs.Memory.{Memory, State, state, noEntry, standing, capacityOf}
 use Rattle.model.specs.Starts.{After, after}
 use Rattle.model.specs.Changes.{unchanged}
-use Rattle.model.specs.Queries.{timeHeld, rowsAt}
+use Rattle.model.specs.Queries.{rowsAt}
 
 -- a count file: its entry and the 8 × R bytes of its area
 pub record File : Type 0 where
@@ -62,6 +62,10 @@ withCount s k =
 unfoldable pub isKept : ℕ → List File → Bool
 isKept t [] = false
 isKept t (f ∷ fs) = eqb (f .entry .time) t || isKept t fs
+
+-- "time at most the last? 12": since 02's wish 2 keep's alone, "because a later request could make it wrong"
+abbrev pub timeHeld : State → ℕ → Question
+timeHeld st t = question 12 (leb t (st .numbers .last))
 
 abbrev pub keepQuestions : State → ℕ → List Question
 keepQuestions st t =

@@ -24,6 +24,7 @@ pub mod Promises
 pub mod Calls
 pub mod Chains
 pub mod Demands
+pub mod LateTimes
 pub mod Shape
 pub mod Numbering
 pub mod Tree

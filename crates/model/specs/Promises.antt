@@ -53,6 +53,11 @@ pub record Asked {A : Type 0} (st : State) (o : Outcome A) : Type 0 where
   pub standing-first : refusedAmong (standing st) o ≡ firstNo (standing st)
   pub never-17 : refusedBy 17 o ≡ false
 
+-- a query is never refused for its time: "Only a keep can meet 12 from here on"
+pub record QueryAsked {A : Type 0} (st : State) (o : Outcome A) : Type 0 where
+  pub asked : Asked st o
+  pub never-12 : refusedBy 12 o ≡ false
+
 -- ---- frames
 
 -- from place k on nothing was written
@@ -101,30 +106,30 @@ pub record FilesPromise (files : ℕ) (st : State) (o : Outcome Unit) (st' : Sta
 -- ---- position, table, view, net change and units: all of the store is lent to be read alone
 
 pub record PositionPromise (st : State) (t : ℕ) (o : Outcome Position) : Type 0 where
-  pub asked : Asked st o
+  pub asked : QueryAsked st o
   pub audited : (Audited st → o ≡ positionOf st t)
 
 pub record TablePromise (st : State) (t : ℕ) (out : List ℕ) (o : Outcome TableSaid) (out' : List ℕ) : Type 0 where
-  pub asked : Asked st o
+  pub asked : QueryAsked st o
   pub refused : (isRefused o ≡ true → out' ≡ out)
   pub framed : Beyond (8 * st .numbers .limit) out out'
   pub audited : (Audited st → _≡_ {A = Written TableSaid} (record { outcome = o; output = out' }) (tableOf st t out))
 
 pub record ViewPromise (st : State) (t : ℕ) (o : Outcome OutsetSaid) (rows : List ℕ) : Type 0 where
-  pub asked : Asked st o
+  pub asked : QueryAsked st o
   pub audited : (Audited st → _≡_ {A = Viewed} (record { outcome = o; rows = rows }) (viewOf st t))
 
 pub record NetChangePromise (st : State) (a b : ℕ) (out work : List ℕ) (o : Outcome ℕ) (out' work' : List ℕ) : Type 0 where
-  pub asked : Asked st o
+  pub asked : QueryAsked st o
   pub refused : (isRefused o ≡ true → (out' ≡ out) × (work' ≡ work))
   pub output-framed : Beyond (24 * st .numbers .limit) out out'
   pub workspace-framed : Beyond (16 * st .numbers .limit) work work'
   pub audited : (Audited st → _≡_ {A = Netted} (record { outcome = o; output = out'; workspace = work' }) (netOf st a b out work))
 
 pub record UnitsPromise (st : State) (t : ℕ) (o : Outcome ℕ) : Type 0 where
-  pub asked : Asked st o
+  pub asked : QueryAsked st o
   pub audited : (Audited st → o ≡ unitsOf st t)
 
 pub record DifferencePromise (st : State) (a b : ℕ) (o : Outcome ℤ) : Type 0 where
-  pub asked : Asked st o
+  pub asked : QueryAsked st o
   pub audited : (Audited st → o ≡ differenceOf st a b)

@@ -12,10 +12,10 @@ use Rattle.model.specs.declared.Position.{Position}
 use Rattle.model.specs.Answers.{refuses, answers, firstNo}
 use Rattle.model.specs.Memory.{State, sound}
 use Rattle.model.specs.Outset.{outsetFor}
-use Rattle.model.specs.Queries.{positionOf, tableOf, viewOf, rowsPart}
+use Rattle.model.specs.Queries.{answeredTime, positionOf, tableOf, viewOf, rowsPart}
 use Rattle.model.specs.Promises.{isRefused, PositionPromise, TablePromise, ViewPromise}
 use Rattle.model.proofs.AuditLaws.{audited-facts}
-use Rattle.model.proofs.PromiseLaws.{asked-refused, asked-answered, not-refused, beyond-same}
+use Rattle.model.proofs.PromiseLaws.{query-refused, query-answered, not-refused, beyond-same}
 use Rattle.pages.specs.Paged.{Indexed, PositionIs}
 use Rattle.catalogue.specs.declared.Catalogue.{Catalogue}
 use Rattle.catalogue.specs.Files.{Loaded}
@@ -34,16 +34,12 @@ module _ (st : State) (t : ℕ) where
 
   pub position-header : sound st ≡ false → PositionPromise st t (refuses 1)
   unfolding positionOf firstNo
-  position-header q = record { asked = asked-refused st 1 (rw q) refl; audited = λ a. rw q }
+  position-header q = record { asked = query-refused st 1 (rw q) refl refl; audited = λ a. rw q }
 
-  pub position-late : sound st ≡ true → st .numbers .last < t → PositionPromise st t (refuses 12)
-  unfolding positionOf firstNo
-  position-late q h = record { asked = asked-refused st 12 (rw q) refl; audited = λ a. rw (q, lt-leb _ _ h) }
-
-  pub position-answers : (p : Position) → sound st ≡ true → t ≤ st .numbers .last → PositionIs (st .numbers) t (st .memory .log) (st .memory .index) p
+  pub position-answers : (p : Position) → sound st ≡ true → PositionIs (st .numbers) (answeredTime (st .numbers .last) t) (st .memory .log) (st .memory .index) p
       → PositionPromise st t (answers p)
   unfolding positionOf firstNo
-  position-answers p q h is = record { asked = asked-answered st p q; audited = λ a. rw (q, le-leb _ _ h) (ap answers (position-of st (audited-facts st a) is)) }
+  position-answers p q is = record { asked = query-answered st p q; audited = λ a. rw q (ap answers (position-of st (audited-facts st a) is)) }
 
 -- ---- what question 1 tells
 
@@ -75,32 +71,28 @@ ready-of f h e =
 module _ (st : State) (t : ℕ) (out : List ℕ) where
   pub table-header : sound st ≡ false → TablePromise st t out (refuses 1) out
   unfolding tableOf firstNo isRefused
-  table-header q = record { asked = asked-refused st 1 (rw q) refl; refused = λ e. refl; framed = beyond-same _ out; audited = λ a. rw q }
+  table-header q = record { asked = query-refused st 1 (rw q) refl refl; refused = λ e. refl; framed = beyond-same _ out; audited = λ a. rw q }
 
-  pub table-late : sound st ≡ true → st .numbers .last < t → TablePromise st t out (refuses 12) out
+  pub table-short : sound st ≡ true → length out < 8 * st .numbers .limit → TablePromise st t out (refuses 13) out
   unfolding tableOf firstNo isRefused
-  table-late q h = record { asked = asked-refused st 12 (rw q) refl; refused = λ e. refl; framed = beyond-same _ out; audited = λ a. rw (q, lt-leb _ _ h) }
-
-  pub table-short : sound st ≡ true → t ≤ st .numbers .last → length out < 8 * st .numbers .limit → TablePromise st t out (refuses 13) out
-  unfolding tableOf firstNo isRefused
-  table-short q h g =
-      record { asked = asked-refused st 13 (rw q) refl; refused = λ e. refl; framed = beyond-same _ out; audited = λ a. rw (q, le-leb _ _ h, lt-leb _ _ g) }
+  table-short q g =
+      record { asked = query-refused st 13 (rw q) refl refl; refused = λ e. refl; framed = beyond-same _ out; audited = λ a. rw (q, lt-leb _ _ g) }
 
   -- the part lent, of 8 × R bytes, came back as the bytes ys
-  pub table-answers : (c : Catalogue) (w : Worked) {ys : List ℕ} → sound st ≡ true → t ≤ st .numbers .last → 8 * st .numbers .limit ≤ length out → length ys ≡ 8 * st .numbers .limit
+  pub table-answers : (c : Catalogue) (w : Worked) {ys : List ℕ} → sound st ≡ true → 8 * st .numbers .limit ≤ length out → length ys ≡ 8 * st .numbers .limit
       → Loaded (st .memory .catalogue) (st .numbers .files) c
-      → WorkedOut (st .numbers) (st .memory .log) (st .memory .index) (st .memory .table) (st .memory .areas) c t w ys
+      → WorkedOut (st .numbers) (st .memory .log) (st .memory .index) (st .memory .table) (st .memory .areas) c (answeredTime (st .numbers .last) t) w ys
       → TablePromise st t out (answers (record { rows = w .rows; side = w .side; between = w .between })) (putMid 0 (8 * st .numbers .limit - 0) out ys)
   unfolding tableOf firstNo isRefused
-  table-answers c w {ys} q h room l has worked =
+  table-answers c w {ys} q room l has worked =
       let size = 8 * st .numbers .limit in
       record {
-        asked = asked-answered st _ q;
+        asked = query-answered st _ q;
         refused = λ e. not-refused e;
         framed = lent-beyond size out ys room l;
         audited = λ a.
             let is = worked .on (st .memory .catalogue) has a in
-            rw (front-back size out ys l, q, le-leb _ _ h, le-leb _ _ room, is .0, is .1);
+            rw (front-back size out ys l, q, le-leb _ _ room, is .0, is .1);
       }
 
 -- ---- view
@@ -108,22 +100,18 @@ module _ (st : State) (t : ℕ) (out : List ℕ) where
 module _ (st : State) (t : ℕ) where
   pub view-header : sound st ≡ false → ViewPromise st t (refuses 1) (take 0 (st .memory .table))
   unfolding viewOf firstNo
-  view-header q = record { asked = asked-refused st 1 (rw q) refl; audited = λ a. rw q }
+  view-header q = record { asked = query-refused st 1 (rw q) refl refl; audited = λ a. rw q }
 
-  pub view-late : sound st ≡ true → st .numbers .last < t → ViewPromise st t (refuses 12) (take 0 (st .memory .table))
-  unfolding viewOf firstNo
-  view-late q h = record { asked = asked-refused st 12 (rw q) refl; audited = λ a. rw (q, lt-leb _ _ h) }
-
-  pub view-answers : (c : Catalogue) (u : Used) → sound st ≡ true → t ≤ st .numbers .last → Loaded (st .memory .catalogue) (st .numbers .files) c
-      → NearestIs (st .numbers) c t (st .memory .log) (st .memory .index) u
+  pub view-answers : (c : Catalogue) (u : Used) → sound st ≡ true → Loaded (st .memory .catalogue) (st .numbers .files) c
+      → NearestIs (st .numbers) c (answeredTime (st .numbers .last) t) (st .memory .log) (st .memory .index) u
       → let h = u .chosen .outset in ViewPromise st t (answers (record { place = h .place; rows = h .rows; side = u .chosen .side; between = u .chosen .between }))
       (rowsPart (st .numbers .limit) (lent (st .memory .areas) (st .memory .table)) (h .place) (h .rows))
   unfolding viewOf firstNo
-  view-answers c u q h has near =
+  view-answers c u q has near =
       record {
-        asked = asked-answered st _ q;
+        asked = query-answered st _ q;
         audited = λ a.
             let f = audited-facts st a in
-            let is : u .chosen ≡ outsetFor st t = near .chosen-is (st .memory .catalogue) (describes st f c has) in
-            rw (q, le-leb _ _ h, rows-part-lent (st .numbers .limit) (st .memory) (u .chosen .outset .place) (u .chosen .outset .rows), is);
+            let is : u .chosen ≡ outsetFor st (answeredTime (st .numbers .last) t) = near .chosen-is (st .memory .catalogue) (describes st f c has) in
+            rw (q, rows-part-lent (st .numbers .limit) (st .memory) (u .chosen .outset .place) (u .chosen .outset .rows), is);
       }

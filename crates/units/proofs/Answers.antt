@@ -1,15 +1,15 @@
 -- The promises of the two calls, from the answers to the questions and what the code says on any memory: one law for each
 -- return. Assumes nothing.
-use Prim.Native.Nat.{ℕ, _≤_, _<_}
+use Prim.Native.Nat.{ℕ}
 use mathlib.Core.Path.{_≡_, refl}
 use mathlib.Core.Bool.{true, false}
 use lib.IntN.{ℤ, pos, _-ℤ_}
-use borrow.Author.Tests.{le-leb, lt-leb}
 use Rattle.model.specs.Answers.{refuses, answers, firstNo}
 use Rattle.model.specs.Memory.{State, sound}
+use Rattle.model.specs.Queries.{answeredTime}
 use Rattle.model.specs.Units.{difference, unitsOf, differenceOf}
 use Rattle.model.specs.Promises.{UnitsPromise, DifferencePromise}
-use Rattle.model.proofs.PromiseLaws.{asked-refused, asked-answered}
+use Rattle.model.proofs.PromiseLaws.{query-refused, query-answered}
 use Rattle.catalogue.specs.declared.Catalogue.{Catalogue}
 use Rattle.catalogue.specs.Files.{Loaded}
 use Rattle.units.specs.Totals.{TotalIs}
@@ -21,37 +21,24 @@ Total st c t r = TotalIs (st .numbers) (st .memory .log) (st .memory .index) (st
 module _ (st : State) (t : ℕ) where
   pub units-header : sound st ≡ false → UnitsPromise st t (refuses 1)
   unfolding unitsOf firstNo
-  units-header q = record { asked = asked-refused st 1 (rw q) refl; audited = λ a. rw q }
+  units-header q = record { asked = query-refused st 1 (rw q) refl refl; audited = λ a. rw q }
 
-  pub units-late : sound st ≡ true → st .numbers .last < t → UnitsPromise st t (refuses 12)
+  pub units-answers : (c : Catalogue) (r : ℕ) → sound st ≡ true → Loaded (st .memory .catalogue) (st .numbers .files) c
+      → Total st c (answeredTime (st .numbers .last) t) r → UnitsPromise st t (answers r)
   unfolding unitsOf firstNo
-  units-late q h = record { asked = asked-refused st 12 (rw q) refl; audited = λ a. rw (q, lt-leb _ _ h) }
-
-  pub units-answers : (c : Catalogue) (r : ℕ) → sound st ≡ true → t ≤ st .numbers .last → Loaded (st .memory .catalogue) (st .numbers .files) c
-      → Total st c t r → UnitsPromise st t (answers r)
-  unfolding unitsOf firstNo
-  units-answers c r q h has is =
-      record { asked = asked-answered st r q; audited = λ a. rw (q, le-leb _ _ h, is .on (st .memory .catalogue) has a) }
+  units-answers c r q has is = record { asked = query-answered st r q; audited = λ a. rw (q, is .on (st .memory .catalogue) has a) }
 
 module _ (st : State) (a b : ℕ) where
   pub difference-header : sound st ≡ false → DifferencePromise st a b (refuses 1)
   unfolding differenceOf firstNo
-  difference-header q = record { asked = asked-refused st 1 (rw q) refl; audited = λ ok. rw q }
+  difference-header q = record { asked = query-refused st 1 (rw q) refl refl; audited = λ ok. rw q }
 
-  pub difference-first-late : sound st ≡ true → st .numbers .last < a → DifferencePromise st a b (refuses 12)
-  unfolding differenceOf firstNo
-  difference-first-late q h = record { asked = asked-refused st 12 (rw q) refl; audited = λ ok. rw (q, lt-leb _ _ h) }
-
-  pub difference-second-late : sound st ≡ true → a ≤ st .numbers .last → st .numbers .last < b → DifferencePromise st a b (refuses 12)
-  unfolding differenceOf firstNo
-  difference-second-late q h g = record { asked = asked-refused st 12 (rw q) refl; audited = λ ok. rw (q, le-leb _ _ h, lt-leb _ _ g) }
-
-  pub difference-answers : (c : Catalogue) (first second : ℕ) (less : ℤ) → sound st ≡ true → a ≤ st .numbers .last → b ≤ st .numbers .last
-      → Loaded (st .memory .catalogue) (st .numbers .files) c → Total st c a first → Total st c b second → less ≡ pos second -ℤ pos first
+  pub difference-answers : (c : Catalogue) (first second : ℕ) (less : ℤ) → sound st ≡ true → Loaded (st .memory .catalogue) (st .numbers .files) c
+      → Total st c (answeredTime (st .numbers .last) a) first → Total st c (answeredTime (st .numbers .last) b) second → less ≡ pos second -ℤ pos first
       → DifferencePromise st a b (answers less)
   unfolding differenceOf difference firstNo
-  difference-answers c first second less q h g has one two is =
+  difference-answers c first second less q has one two is =
       record {
-        asked = asked-answered st _ q;
-        audited = λ ok. rw (q, le-leb _ _ h, le-leb _ _ g, is, one .on (st .memory .catalogue) has ok, two .on (st .memory .catalogue) has ok);
+        asked = query-answered st _ q;
+        audited = λ ok. rw (q, is, one .on (st .memory .catalogue) has ok, two .on (st .memory .catalogue) has ok);
       }

@@ -27,7 +27,7 @@ use Rattle.worked.proofs.QuestionOne.{unsound}
 -- ---- what each call answers
 
 -- with 20 kept, and log space for two records more
-abbrev roomy : State
+abbrev pub roomy : State
 roomy =
     let m = kept20 .memory in
     state (kept20 .numbers) (record { log = m .log ++ replicate 45 7; index = m .index; table = m .table; catalogue = m .catalogue; areas = m .areas })
@@ -35,12 +35,12 @@ roomy =
 each-answers : map (answerOf roomy)
     (Call.insert 61 3 5 ∷ Call.insert 61 7 5 ∷ Call.delete 61 7 ∷ Call.delete 61 3 ∷ Call.update 61 9 8 ∷ Call.update 60 9 8 ∷ Call.position 35 ∷ Call.position 61
     ∷ Call.table 45 (replicate 33 77) ∷ Call.view 20 ∷ Call.netChange 20 45 (replicate 97 77) (replicate 65 77) ∷ Call.units 45 ∷ Call.units 61
-    ∷ Call.difference 20 45 ∷ Call.difference 20 61 ∷ Call.keep 40 ∷ Call.keep 20
+    ∷ Call.difference 20 45 ∷ Call.difference 20 61 ∷ Call.keep 40 ∷ Call.keep 20 ∷ Call.keep 61
     ∷ Call.drop 20 ∷ Call.drop 40 ∷ Call.audit ∷ [])
     ≡ changed (answers tt) ∷ changed (refuses 7) ∷ changed (answers tt) ∷ changed (refuses 8) ∷ changed (answers tt) ∷ changed (refuses 6) ∷ positioned (located 1 4)
-    ∷ positioned (refuses 12) ∷ written (told 1 Earlier 3 table45)
+    ∷ positioned (located 3 8) ∷ written (told 1 Earlier 3 table45)
     ∷ viewed (seen (Area 0) 2 Earlier 0 (3 ∷ 0 ∷ 0 ∷ 0 ∷ 12 ∷ 0 ∷ 0 ∷ 0 ∷ 7 ∷ 0 ∷ 0 ∷ 0 ∷ 50 ∷ 0 ∷ 0 ∷ 0 ∷ []))
-    ∷ netted (changes 3 change20to45 (table20 ++ table45)) ∷ totalled (answers 44) ∷ totalled (refuses 12) ∷ differed (answers (negsuc 17)) ∷ differed (refuses 12) ∷ changed (answers tt) ∷ changed (refuses 14) ∷ changed (answers tt) ∷ changed (refuses 16)
+    ∷ netted (changes 3 change20to45 (table20 ++ table45)) ∷ totalled (answers 44) ∷ totalled (answers 50) ∷ differed (answers (negsuc 17)) ∷ differed (answers (negsuc 11)) ∷ changed (answers tt) ∷ changed (refuses 14) ∷ changed (refuses 12) ∷ changed (answers tt) ∷ changed (refuses 16)
     ∷ audited true ∷ []
 unfolding computing
 each-answers = refl
@@ -92,7 +92,7 @@ refused-among : (among (answers tt) ∷ among (refuses 1) ∷ among (refuses 12)
 unfolding computing
 refused-among = refl
 
--- question 1 answered no; another no; none
+-- question 1 answered no; none, for a time after the last and for the last
 asked-unsound : Asked unsound (positionOf unsound 11)
 unfolding computing
 asked-unsound = record { standing-first = refl; never-17 = refl }

@@ -15,3 +15,4 @@ pub mod MemoryCases
 pub mod OutsetCases
 pub mod AuditCases
 pub mod CallCases
+pub mod LateCases

@@ -167,7 +167,7 @@ none-table : tableOf none 0 (replicate 9 3) ≡ record { outcome = answers (reco
 unfolding computing
 none-table = refl
 
-none-positions : (positionOf none 0 ∷ positionOf none 1 ∷ []) ≡ located 0 0 ∷ refuses 12 ∷ []
+none-positions : (positionOf none 0 ∷ positionOf none 1 ∷ []) ≡ located 0 0 ∷ located 0 0 ∷ []
 unfolding computing
 none-positions = refl
 

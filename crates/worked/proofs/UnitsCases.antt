@@ -30,7 +30,7 @@ by-hand = refl
 abbrev none : State
 none = freshOf 2 2 3 (record { log = replicate 24 7; index = []; table = replicate 24 7; catalogue = []; areas = [] }) .state
 
-empty-log : (unitsOf none 0 ∷ unitsOf none 1 ∷ []) ≡ units 0 ∷ refuses 12 ∷ []
+empty-log : (unitsOf none 0 ∷ unitsOf none 1 ∷ []) ≡ units 0 ∷ units 0 ∷ []
 unfolding computing
 empty-log = refl
 

@@ -9,10 +9,11 @@ use lib.Seq.{length-take-le}
 use Rattle.codec.specs.LittleEndian.{AreBytes}
 use Rattle.model.specs.Answers.{netChangeOutcome, refusal}
 use Rattle.model.specs.Promises.{storeOf}
+use Rattle.model.proofs.LateLaws.{answered-le}
 use Rattle.catalogue.specs.declared.Catalogue.{Catalogue}
 use Rattle.catalogue.proofs.EntryLaws.{loaded-by-value}
 use Rattle.tables.proofs.Answers.{ready-of}
-use Rattle.comparing.proofs.Answers.{net-header, net-first-late, net-second-late, net-output-short, net-workspace-short, net-answers}
+use Rattle.comparing.proofs.Answers.{net-header, net-output-short, net-workspace-short, net-answers}
 use borrow.Author.Needs.{needs}
 use Rattle.comparing.proofs.net_change.Statement.{statement}
 use Rattle.comparing.proofs.net_change.Tie as tie
@@ -27,35 +28,18 @@ returns c catalogue e =
     let x = c1 .before .before .before .before .before .before .before .before .args in
     net-header (storeOf (x .s) (x .log .now) (x .index .now) (x .current .now) catalogue (x .areas .now)) (x .a) (x .b) (x .out .now) (x .work .now) (rw (← ap (λ (y : Catalogue). y .lent) e) (sym (c1 .before .is-sound .ensures .0) ∙ c1 .if1 .left))
 
-returns-2 : tie.Need-returns-2
-unfolding netChangeOutcome refusal
-returns-2 c catalogue e =
-    let c1 = c .before .before in
-    let x = c1 .before .before .before .before .before .before .before .before .args in
-    net-first-late (storeOf (x .s) (x .log .now) (x .index .now) (x .current .now) catalogue (x .areas .now)) (x .a) (x .b) (x .out .now) (x .work .now) (rw (← ap (λ (y : Catalogue). y .lent) e) (sym (c1 .before .is-sound .ensures .0) ∙ c1 .if1 .taken)) (omega (arith, c .if2 .taken))
-
-returns-3 : tie.Need-returns-3
-unfolding netChangeOutcome refusal
-returns-3 c catalogue e =
-    let c2 = c .before .before in
-    let c1 = c2 .before .before in
-    let x = c1 .before .before .before .before .before .before .before .before .args in
-    net-second-late (storeOf (x .s) (x .log .now) (x .index .now) (x .current .now) catalogue (x .areas .now)) (x .a) (x .b) (x .out .now) (x .work .now) (rw (← ap (λ (y : Catalogue). y .lent) e) (sym (c1 .before .is-sound .ensures .0) ∙ c1 .if1 .taken)) (omega (arith, c2 .if2 .left)) (omega (arith, c2 .if2 .left, c .if3 .taken))
-
 cast-size : tie.Need-cast-size
 cast-size c = search needs
 
 mul-size : tie.Need-mul-size
 mul-size c = search needs
 
-returns-4 : tie.Need-returns-4
+returns-2 : tie.Need-returns-2
 unfolding netChangeOutcome refusal
-returns-4 c catalogue e =
-    let c3 = c .before .before in
-    let c2 = c3 .before .before in
-    let c1 = c2 .before .before in
+returns-2 c catalogue e =
+    let c1 = c .before .before in
     let x = c1 .before .before .before .before .before .before .before .before .args in
-    net-output-short (storeOf (x .s) (x .log .now) (x .index .now) (x .current .now) catalogue (x .areas .now)) (x .a) (x .b) (x .out .now) (x .work .now) (rw (← ap (λ (y : Catalogue). y .lent) e) (sym (c1 .before .is-sound .ensures .0) ∙ c1 .if1 .taken)) (omega (arith, c2 .if2 .left)) (omega (arith, c3 .if3 .left)) (omega (arith, c .if4 .taken))
+    net-output-short (storeOf (x .s) (x .log .now) (x .index .now) (x .current .now) catalogue (x .areas .now)) (x .a) (x .b) (x .out .now) (x .work .now) (rw (← ap (λ (y : Catalogue). y .lent) e) (sym (c1 .before .is-sound .ensures .0) ∙ c1 .if1 .taken)) (omega (arith, c .if2 .taken))
 
 cast-space : tie.Need-cast-space
 cast-space c = search needs
@@ -63,15 +47,19 @@ cast-space c = search needs
 mul-space : tie.Need-mul-space
 mul-space c = search needs
 
-returns-5 : tie.Need-returns-5
+returns-3 : tie.Need-returns-3
 unfolding netChangeOutcome refusal
-returns-5 c catalogue e =
-    let c4 = c .before .before in
-    let c3 = c4 .before .before in
-    let c2 = c3 .before .before in
+returns-3 c catalogue e =
+    let c2 = c .before .before in
     let c1 = c2 .before .before in
     let x = c1 .before .before .before .before .before .before .before .before .args in
-    net-workspace-short (storeOf (x .s) (x .log .now) (x .index .now) (x .current .now) catalogue (x .areas .now)) (x .a) (x .b) (x .out .now) (x .work .now) (rw (← ap (λ (y : Catalogue). y .lent) e) (sym (c1 .before .is-sound .ensures .0) ∙ c1 .if1 .taken)) (omega (arith, c2 .if2 .left)) (omega (arith, c3 .if3 .left)) (omega (arith, c4 .if4 .left)) (omega (arith, c .if5 .taken))
+    net-workspace-short (storeOf (x .s) (x .log .now) (x .index .now) (x .current .now) catalogue (x .areas .now)) (x .a) (x .b) (x .out .now) (x .work .now) (rw (← ap (λ (y : Catalogue). y .lent) e) (sym (c1 .before .is-sound .ensures .0) ∙ c1 .if1 .taken)) (omega (arith, c2 .if2 .left)) (omega (arith, c .if3 .taken))
+
+answered-time-requires : tie.Need-answered-time-requires
+answered-time-requires c κs = search needs
+
+answered-time-requires-2 : tie.Need-answered-time-requires-2
+answered-time-requires-2 c κs = search needs
 
 sub-work-out-both : tie.Need-sub-work-out-both
 sub-work-out-both c = search needs
@@ -84,15 +72,14 @@ part-work-out-both-end c = search needs
 
 work-out-both-requires : tie.Need-work-out-both-requires
 work-out-both-requires c κs =
-    let c5 = c .before in
-    let c3 = c5 .before .before .before .before in
-    let c2 = c3 .before .before in
-    let c1 = c2 .before .before in
+    let second = c .before in
+    let first = second .before in
+    let c1 = first .before .before .before .before .before in
     let x = c1 .before .before .before .before .before .before .before .before .args in
     let fine = c1 .before .is-sound .ensures .1 (c1 .if1 .taken) in
     record {
-      first-ready = ready-of fine (omega (arith, c2 .if2 .left, c3 .if3 .left)) refl;
-      second-ready = ready-of fine (omega (arith, c2 .if2 .left, c3 .if3 .left)) refl;
+      first-ready = ready-of fine (rw (first .answered-time .ensures) (answered-le _ _)) refl;
+      second-ready = ready-of fine (rw (second .answered-time2 .ensures) (answered-le _ _)) refl;
       work-is = length-take-le (16 * x .s .limit - 0) (x .work .now) (omega arith) ∙ sub-zero (16 * x .s .limit);
     }
 
@@ -112,11 +99,11 @@ cast-t33 : tie.Need-cast-t33
 cast-t33 c =
     let k = c .before .before in
     let w = k .before .before .before .before .before in
-    let c4 = w .before .before .before .before in
-    let c1 = c4 .before .before .before .before .before .before in
+    let c2 = w .before .before .before .before .before .before in
+    let c1 = c2 .before .before in
     let x = c1 .before .before .before .before .before .before .before .before .args in
     let size = 24 * x .s .limit in
-    let long : length (take (size - 0) (x .out .now)) ≡ size = length-take-le (size - 0) (x .out .now) (omega (arith, c4 .if4 .left)) ∙ sub-zero size in
+    let long : length (take (size - 0) (x .out .now)) ≡ size = length-take-le (size - 0) (x .out .now) (omega (arith, c2 .if2 .left)) ∙ sub-zero size in
     omega (arith, k .merge-both .ensures .0, long, c1 .before .is-sound .ensures .1 (c1 .if1 .taken) .in-range .limit-high)
 
 same-length : tie.Need-same-length
@@ -125,14 +112,14 @@ same-length c = search needs
 same-length-2 : tie.Need-same-length-2
 same-length-2 c = search needs
 
-returns-6 : tie.Need-returns-6
+returns-4 : tie.Need-returns-4
 unfolding netChangeOutcome refusal AreBytes
-returns-6 c catalogue e =
+returns-4 c catalogue e =
     let k = c .before .before in
     let w = k .before .before .before .before .before in
-    let c5 = w .before .before in
-    let c4 = c5 .before .before in
-    let c3 = c4 .before .before in
+    let second = w .before .before in
+    let first = second .before in
+    let c3 = first .before in
     let c2 = c3 .before .before in
     let c1 = c2 .before .before in
     let q = c1 .before in
@@ -142,12 +129,12 @@ returns-6 c catalogue e =
     let fine = q .is-sound .ensures .1 (c1 .if1 .taken) in
     let lent = ap (λ (y : Catalogue). y .lent) e in
     let known : AreBytes (x .log .now) = λ i. omega (arith, bytes .shared-slice-known .given i) in
-    let size : length (take (24 * R - 0) (x .out .now)) ≡ 24 * R = length-take-le (24 * R - 0) (x .out .now) (omega (arith, c4 .if4 .left)) ∙ sub-zero (24 * R) in
-    let space : length (take (16 * R - 0) (x .work .now)) ≡ 16 * R = length-take-le (16 * R - 0) (x .work .now) (omega (arith, c5 .if5 .left)) ∙ sub-zero (16 * R) in
+    let size : length (take (24 * R - 0) (x .out .now)) ≡ 24 * R = length-take-le (24 * R - 0) (x .out .now) (omega (arith, c2 .if2 .left)) ∙ sub-zero (24 * R) in
+    let space : length (take (16 * R - 0) (x .work .now)) ≡ 16 * R = length-take-le (16 * R - 0) (x .work .now) (omega (arith, c3 .if3 .left)) ∙ sub-zero (16 * R) in
     net-answers (storeOf (x .s) (x .log .now) (x .index .now) (x .current .now) catalogue (x .areas .now)) (x .a) (x .b) (x .out .now) (x .work .now) (x .c) (w .work-out-both .result) (k .merge-both .result) _ _
     (w .work-out-both .kept .1 .1 .1 .1 .1 .1 .1 .1 .0 ∙ space) (k .merge-both .kept .1 .1 .1 .0 ∙ size) known
-    (loaded-by-value catalogue e (x .s .files) (fine .files-sixteen) (rw lent at (fine .files-lent))) (w .work-out-both .ensures .1) (k .merge-both .ensures .1)
-    (rw (← ap (λ (y : Catalogue). y .lent) e) (sym (q .is-sound .ensures .0) ∙ c1 .if1 .taken)) (omega (arith, c2 .if2 .left)) (omega (arith, c3 .if3 .left)) (omega (arith, c4 .if4 .left)) (omega (arith, c5 .if5 .left))
+    (loaded-by-value catalogue e (x .s .files) (fine .files-sixteen) (rw lent at (fine .files-lent))) (rw (first .answered-time .ensures, second .answered-time2 .ensures) at (w .work-out-both .ensures .1)) (k .merge-both .ensures .1)
+    (rw (← ap (λ (y : Catalogue). y .lent) e) (sym (q .is-sound .ensures .0) ∙ c1 .if1 .taken)) (omega (arith, c2 .if2 .left)) (omega (arith, c3 .if3 .left))
 
 pub net-change-spec : {M : Type 1} → statement M
 net-change-spec =
@@ -155,14 +142,14 @@ net-change-spec =
     (tie.spec
     is-sound-requires
     returns
-    returns-2
-    returns-3
     cast-size
     mul-size
-    returns-4
+    returns-2
     cast-space
     mul-space
-    returns-5
+    returns-3
+    answered-time-requires
+    answered-time-requires-2
     sub-work-out-both
     part-work-out-both-start
     part-work-out-both-end
@@ -174,4 +161,4 @@ net-change-spec =
     cast-t33
     same-length
     same-length-2
-    returns-6)
+    returns-4)
