@@ -58,13 +58,8 @@ module _ (st : State) (a b : ℕ) (out work : List ℕ) where
 
   -- ---- the answer
 
-  abbrev from : ℕ
-  from = answeredTime (st .numbers .last) a
-
-  abbrev to : ℕ
-  to = answeredTime (st .numbers .last) b
-
-  module _ (c : Catalogue) (n : Both) (k : ℕ) (ws ys : List ℕ) (lw : length ws ≡ 16 * st .numbers .limit) (ly : length ys ≡ 24 * st .numbers .limit)
+  module _ (c : Catalogue) (n : Both) (k from to : ℕ) (ws ys : List ℕ) (first-time : from ≡ answeredTime (st .numbers .last) a) (second-time : to ≡ answeredTime (st .numbers .last) b)
+      (lw : length ws ≡ 16 * st .numbers .limit) (ly : length ys ≡ 24 * st .numbers .limit)
       (known : AreBytes (st .memory .log)) (has : Loaded (st .memory .catalogue) (st .numbers .files) c)
       (both : BothWorkedOut (st .numbers) (st .memory .log) (st .memory .index) (st .memory .table) (st .memory .areas) c from to n ws)
       (merged : Merges (part 0 (8 * n .first) (putMid 0 (16 * st .numbers .limit - 0) work ws))
@@ -96,5 +91,5 @@ module _ (st : State) (a b : ℕ) (out work : List ℕ) where
           audited = λ ok.
               let is = both .on (st .memory .catalogue) has ok in
               let r = merged-rows ok in
-              rw (front-back (24 * st .numbers .limit) out ys ly, front-back (16 * st .numbers .limit) work ws lw, q, le-leb _ _ l, le-leb _ _ m, r .0, r .1, is .1);
+              rw (← first-time, ← second-time, front-back (24 * st .numbers .limit) out ys ly, front-back (16 * st .numbers .limit) work ws lw, q, le-leb _ _ l, le-leb _ _ m, r .0, r .1, is .1);
         }

@@ -23,6 +23,7 @@ pub mod FirstWrongLaws
 pub mod AuditLaws
 pub mod UnitsLaws
 pub mod SignedLaws
+pub mod LateComputed
 pub mod LateLaws
-pub mod KeepAlone
+pub mod LateKeeps
 pub mod FileLaws

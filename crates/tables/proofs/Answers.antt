@@ -36,10 +36,10 @@ module _ (st : State) (t : ℕ) where
   unfolding positionOf firstNo
   position-header q = record { asked = query-refused st 1 (rw q) refl refl; audited = λ a. rw q }
 
-  pub position-answers : (p : Position) → sound st ≡ true → PositionIs (st .numbers) (answeredTime (st .numbers .last) t) (st .memory .log) (st .memory .index) p
-      → PositionPromise st t (answers p)
+  pub position-answers : (p : Position) (at : ℕ) → sound st ≡ true → at ≡ answeredTime (st .numbers .last) t
+      → PositionIs (st .numbers) at (st .memory .log) (st .memory .index) p → PositionPromise st t (answers p)
   unfolding positionOf firstNo
-  position-answers p q is = record { asked = query-answered st p q; audited = λ a. rw q (ap answers (position-of st (audited-facts st a) is)) }
+  position-answers p at q e is = record { asked = query-answered st p q; audited = λ a. rw (q, ← e) (ap answers (position-of st (audited-facts st a) is)) }
 
 -- ---- what question 1 tells
 
@@ -79,20 +79,20 @@ module _ (st : State) (t : ℕ) (out : List ℕ) where
       record { asked = query-refused st 13 (rw q) refl refl; refused = λ e. refl; framed = beyond-same _ out; audited = λ a. rw (q, lt-leb _ _ g) }
 
   -- the part lent, of 8 × R bytes, came back as the bytes ys
-  pub table-answers : (c : Catalogue) (w : Worked) {ys : List ℕ} → sound st ≡ true → 8 * st .numbers .limit ≤ length out → length ys ≡ 8 * st .numbers .limit
+  pub table-answers : (c : Catalogue) (w : Worked) (at : ℕ) {ys : List ℕ} → sound st ≡ true → at ≡ answeredTime (st .numbers .last) t → 8 * st .numbers .limit ≤ length out → length ys ≡ 8 * st .numbers .limit
       → Loaded (st .memory .catalogue) (st .numbers .files) c
-      → WorkedOut (st .numbers) (st .memory .log) (st .memory .index) (st .memory .table) (st .memory .areas) c (answeredTime (st .numbers .last) t) w ys
+      → WorkedOut (st .numbers) (st .memory .log) (st .memory .index) (st .memory .table) (st .memory .areas) c at w ys
       → TablePromise st t out (answers (record { rows = w .rows; side = w .side; between = w .between })) (putMid 0 (8 * st .numbers .limit - 0) out ys)
   unfolding tableOf firstNo isRefused
-  table-answers c w {ys} q room l has worked =
+  table-answers c w at {ys} q e room l has worked =
       let size = 8 * st .numbers .limit in
       record {
         asked = query-answered st _ q;
-        refused = λ e. not-refused e;
+        refused = λ no. not-refused no;
         framed = lent-beyond size out ys room l;
         audited = λ a.
             let is = worked .on (st .memory .catalogue) has a in
-            rw (front-back size out ys l, q, le-leb _ _ room, is .0, is .1);
+            rw (← e, front-back size out ys l, q, le-leb _ _ room, is .0, is .1);
       }
 
 -- ---- view
@@ -102,16 +102,16 @@ module _ (st : State) (t : ℕ) where
   unfolding viewOf firstNo
   view-header q = record { asked = query-refused st 1 (rw q) refl refl; audited = λ a. rw q }
 
-  pub view-answers : (c : Catalogue) (u : Used) → sound st ≡ true → Loaded (st .memory .catalogue) (st .numbers .files) c
-      → NearestIs (st .numbers) c (answeredTime (st .numbers .last) t) (st .memory .log) (st .memory .index) u
+  pub view-answers : (c : Catalogue) (u : Used) (at : ℕ) → sound st ≡ true → at ≡ answeredTime (st .numbers .last) t → Loaded (st .memory .catalogue) (st .numbers .files) c
+      → NearestIs (st .numbers) c at (st .memory .log) (st .memory .index) u
       → let h = u .chosen .outset in ViewPromise st t (answers (record { place = h .place; rows = h .rows; side = u .chosen .side; between = u .chosen .between }))
       (rowsPart (st .numbers .limit) (lent (st .memory .areas) (st .memory .table)) (h .place) (h .rows))
   unfolding viewOf firstNo
-  view-answers c u q has near =
+  view-answers c u at q e has near =
       record {
         asked = query-answered st _ q;
         audited = λ a.
             let f = audited-facts st a in
-            let is : u .chosen ≡ outsetFor st (answeredTime (st .numbers .last) t) = near .chosen-is (st .memory .catalogue) (describes st f c has) in
-            rw (q, rows-part-lent (st .numbers .limit) (st .memory) (u .chosen .outset .place) (u .chosen .outset .rows), is);
+            let is : u .chosen ≡ outsetFor st at = near .chosen-is (st .memory .catalogue) (describes st f c has) in
+            rw (← e, q, rows-part-lent (st .numbers .limit) (st .memory) (u .chosen .outset .place) (u .chosen .outset .rows), is);
       }

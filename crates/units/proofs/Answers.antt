@@ -23,22 +23,22 @@ module _ (st : State) (t : ℕ) where
   unfolding unitsOf firstNo
   units-header q = record { asked = query-refused st 1 (rw q) refl refl; audited = λ a. rw q }
 
-  pub units-answers : (c : Catalogue) (r : ℕ) → sound st ≡ true → Loaded (st .memory .catalogue) (st .numbers .files) c
-      → Total st c (answeredTime (st .numbers .last) t) r → UnitsPromise st t (answers r)
+  pub units-answers : (c : Catalogue) (at r : ℕ) → sound st ≡ true → at ≡ answeredTime (st .numbers .last) t → Loaded (st .memory .catalogue) (st .numbers .files) c
+      → Total st c at r → UnitsPromise st t (answers r)
   unfolding unitsOf firstNo
-  units-answers c r q has is = record { asked = query-answered st r q; audited = λ a. rw (q, is .on (st .memory .catalogue) has a) }
+  units-answers c at r q e has is = record { asked = query-answered st r q; audited = λ a. rw (← e, q, is .on (st .memory .catalogue) has a) }
 
 module _ (st : State) (a b : ℕ) where
   pub difference-header : sound st ≡ false → DifferencePromise st a b (refuses 1)
   unfolding differenceOf firstNo
   difference-header q = record { asked = query-refused st 1 (rw q) refl refl; audited = λ ok. rw q }
 
-  pub difference-answers : (c : Catalogue) (first second : ℕ) (less : ℤ) → sound st ≡ true → Loaded (st .memory .catalogue) (st .numbers .files) c
-      → Total st c (answeredTime (st .numbers .last) a) first → Total st c (answeredTime (st .numbers .last) b) second → less ≡ pos second -ℤ pos first
+  pub difference-answers : (c : Catalogue) (from to first second : ℕ) (less : ℤ) → sound st ≡ true → from ≡ answeredTime (st .numbers .last) a → to ≡ answeredTime (st .numbers .last) b
+      → Loaded (st .memory .catalogue) (st .numbers .files) c → Total st c from first → Total st c to second → less ≡ pos second -ℤ pos first
       → DifferencePromise st a b (answers less)
   unfolding differenceOf difference firstNo
-  difference-answers c first second less q has one two is =
+  difference-answers c from to first second less q e f has one two is =
       record {
         asked = query-answered st _ q;
-        audited = λ ok. rw (q, is, one .on (st .memory .catalogue) has ok, two .on (st .memory .catalogue) has ok);
+        audited = λ ok. rw (← e, ← f, q, is, one .on (st .memory .catalogue) has ok, two .on (st .memory .catalogue) has ok);
       }

@@ -3,10 +3,12 @@
 
 mod almost;
 mod damage;
+mod late;
 mod next;
 mod start;
 
 pub use damage::damage;
+pub use late::Late;
 pub use next::call;
 pub use start::{last_records, start};
 
@@ -40,6 +42,26 @@ pub enum Call {
 }
 
 impl Call {
+    pub fn name(&self) -> &'static str {
+        match self {
+            Call::Fresh(..) => "fresh store",
+            Call::Open => "opening",
+            Call::Insert(..) => "insert",
+            Call::Delete(..) => "delete",
+            Call::Update(..) => "update",
+            Call::Position(_) => "position",
+            Call::Table(..) => "table",
+            Call::View(_) => "view",
+            Call::NetChange(..) => "net change",
+            Call::Units(_) => "units",
+            Call::UnitsBetween(..) => "units between",
+            Call::Keep(_) => "keep",
+            Call::Drop(_) => "drop",
+            Call::Audit => "audit",
+            Call::Damage(_) => "damage",
+        }
+    }
+
     /// The questions that the call asks.
     pub fn questions(&self) -> &'static [u8] {
         match self {
@@ -47,8 +69,8 @@ impl Call {
             Call::Open => &[1, 2, 3, 4, 5, 17],
             Call::Insert(..) => &[1, 6, 7, 9, 10, 11],
             Call::Delete(..) | Call::Update(..) => &[1, 6, 8, 10, 11],
-            Call::Position(_) | Call::View(_) | Call::Units(_) | Call::UnitsBetween(..) => &[1, 12],
-            Call::Table(..) | Call::NetChange(..) => &[1, 12, 13],
+            Call::Position(_) | Call::View(_) | Call::Units(_) | Call::UnitsBetween(..) => &[1],
+            Call::Table(..) | Call::NetChange(..) => &[1, 13],
             Call::Keep(_) => &[1, 12, 14, 15],
             Call::Drop(_) => &[1, 16],
             Call::Audit | Call::Damage(_) => &[],

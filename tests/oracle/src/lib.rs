@@ -1,5 +1,5 @@
-//! An independent implementation of 01, "The stock history store", with wishes 1, 4, 5 and 6 of 02, to test other
-//! ones against. It is written for plain reading, not for speed: each definition follows a sentence of 01 or 02.
+//! An independent implementation of 01, "The stock history store", with wishes 1, 2, 4, 5 and 6 of 02, to test
+//! other ones against. It is written for plain reading, not for speed: each definition follows a sentence of 01 or 02.
 
 pub mod calls;
 pub mod generate;

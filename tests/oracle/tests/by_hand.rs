@@ -66,6 +66,15 @@ fn tables() {
     assert_eq!(table(&store, 9).0, []);
 }
 
+/// "01's case of time 61 becomes an answer, with the table of 60" (02, wish 2).
+#[test]
+fn the_table_of_61_is_that_of_60() {
+    let store = by_hand();
+    assert_eq!(table(&store, 61).0, [(7, 44), (9, 6)]);
+    assert_eq!(table(&store, 61), table(&store, 60));
+    assert_eq!(position(&store, 61), (3, 8));
+}
+
 #[test]
 fn net_changes() {
     let store = by_hand();
@@ -121,7 +130,8 @@ fn node_numbers_at_order_3() {
 #[test]
 fn refusals() {
     let mut store = by_hand();
-    assert_eq!(refused(store.position(61)), 12);
+    // a query no longer (02, wish 2)
+    assert_eq!(refused(store.keep(61)), 12);
     store.insert(61, 1, 1).unwrap();
     store.insert(62, 2, 1).unwrap();
     assert_eq!(refused(store.insert(63, 4, 1)), 9);

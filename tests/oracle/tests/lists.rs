@@ -1,11 +1,11 @@
 //! The random lists of calls that two stores are compared by: they meet every call, every question, every
-//! capacity, logs with several wrong records, and memory that the audit denies.
+//! capacity, times after the last request, logs with several wrong records, and memory that the audit denies.
 
 mod common;
 
 use common::units::{shown_at, shown_between, told_apart, wrong_differences, wrong_totals, NAMES};
 use common::{candidates, legal::form_right, records_between, side_by_pages};
-use oracle::calls::{call, damage, start, Call, Plan};
+use oracle::calls::{call, damage, start, Call, Late, Plan};
 use oracle::layout::Header;
 use oracle::limits::{ORDERS, PAGE_SIZES};
 use oracle::log::records;
@@ -34,21 +34,27 @@ struct Met {
     audits: [u32; 2],
     /// place without its number, side, and whether no request is between
     views: BTreeMap<(&'static str, bool, bool), u32>,
-    /// tables and views, on memory that the audit passes, with the other side by pages, and whether the later
-    /// outset was used
+    /// times after the last request, on memory that the audit passes: those answered, and of keeps those refused by 12
+    late: Late,
+    /// and the views of such times: place without its number, side, requests between
+    late_views: BTreeMap<(&'static str, bool, u32), u32>,
+    /// tables and views of other times, on memory that the audit passes, with the other side by pages, and whether the
+    /// later outset was used
     other_by_pages: BTreeMap<(&'static str, bool), u32>,
     /// and those with as many requests between on either side, not none
     ties: BTreeMap<&'static str, u32>,
+    /// of times up to the last
     empty_net_changes: u32,
     net_changes: u32,
-    /// what units and units between show on memory that the audit passes, and the wrong ways that they tell apart
+    /// what units and units between of such times show on memory that the audit passes, and the wrong ways that they tell
+    /// apart
     units: BTreeMap<(&'static str, &'static str), u32>,
 }
 
 impl Met {
     /// Notes a side that pages would not have chosen, and a tie.
     fn outset(&mut self, store: &Store, t: u64, name: &'static str, side: Side) {
-        if !store.audit() {
+        if t > store.numbers.last || !store.audit() {
             return;
         }
         if side != side_by_pages(store, t) {
@@ -64,7 +70,7 @@ impl Met {
 
 impl Met {
     fn units(&mut self, store: &Store, t: u64, units: u64) {
-        if store.audit() {
+        if t <= store.numbers.last && store.audit() {
             let records = store.records();
             self.note_units("at", shown_at(&records, t));
             self.note_units("at", told_apart(units as i128, wrong_totals(&records, t)));
@@ -72,7 +78,7 @@ impl Met {
     }
 
     fn units_between(&mut self, store: &Store, a: u64, b: u64, between: i64) {
-        if store.audit() {
+        if a.max(b) <= store.numbers.last && store.audit() {
             let records = store.records();
             self.note_units("between", shown_between(&records, a, b));
             self.note_units("between", told_apart(between as i128, wrong_differences(&records, a, b)));
@@ -81,26 +87,6 @@ impl Met {
 
     fn note_units(&mut self, asked: &'static str, names: Vec<&'static str>) {
         names.into_iter().for_each(|name| *self.units.entry((asked, name)).or_default() += 1);
-    }
-}
-
-fn name(call: &Call) -> &'static str {
-    match call {
-        Call::Fresh(..) => "fresh store",
-        Call::Open => "opening",
-        Call::Insert(..) => "insert",
-        Call::Delete(..) => "delete",
-        Call::Update(..) => "update",
-        Call::Position(_) => "position",
-        Call::Table(..) => "table",
-        Call::View(_) => "view",
-        Call::NetChange(..) => "net change",
-        Call::Units(_) => "units",
-        Call::UnitsBetween(..) => "units between",
-        Call::Keep(_) => "keep",
-        Call::Drop(_) => "drop",
-        Call::Audit => "audit",
-        Call::Damage(_) => "damage",
     }
 }
 
@@ -135,13 +121,20 @@ fn make(store: &mut Store, call: Call, met: &mut Met) -> Result<(), Refusal> {
                 Place::File(_) => "area",
                 Place::Current => "current",
             };
-            *met.views.entry((place, view.side == Side::Later, view.requests_between == 0)).or_default() += 1;
+            let (later, between) = (view.side == Side::Later, view.requests_between);
+            if t <= store.numbers.last {
+                *met.views.entry((place, later, between == 0)).or_default() += 1;
+            } else if store.audit() {
+                *met.late_views.entry((place, later, between)).or_default() += 1;
+            }
             met.outset(store, t, "view", view.side);
         }),
         Call::NetChange(a, b, output, workspace) => {
             store.net_change(a, b, &mut vec![0; output], &mut vec![0; workspace]).map(|entries| {
-                met.net_changes += 1;
-                met.empty_net_changes += (entries == 0) as u32;
+                if a.max(b) <= store.numbers.last {
+                    met.net_changes += 1;
+                    met.empty_net_changes += (entries == 0) as u32;
+                }
             })
         }
         Call::Units(t) => store.units(t).map(|units| met.units(store, t, units)),
@@ -177,10 +170,16 @@ fn list(random: &mut Random, met: &mut Met) {
     for _ in 0..plan.calls {
         damaged |= matches!(next, Call::Damage(_));
         if damaged && store.position(0).is_ok() && !store.audit() {
-            *met.denied.entry(name(&next)).or_default() += 1;
+            *met.denied.entry(next.name()).or_default() += 1;
         }
+        let last = store.numbers.last;
         let question = make(&mut store, next, met).map_or_else(|refusal| refusal.question, |()| 0);
-        *met.ends.entry((name(&next), question)).or_default() += 1;
+        // a query leaves the memory that it was asked on, and so does a refused keep
+        let expected = if let Call::Keep(_) = next { 12 } else { 0 };
+        if question == expected && (!damaged || store.audit()) {
+            met.late.note(&next, last);
+        }
+        *met.ends.entry((next.name(), question)).or_default() += 1;
         met.orders.insert(store.numbers.order);
         met.page_sizes.insert(store.numbers.page_size);
         met.row_limits.insert(store.numbers.row_limit);
@@ -188,12 +187,12 @@ fn list(random: &mut Random, met: &mut Met) {
     }
 }
 
-/// What 3,000 lists met.
+/// What 5,000 lists met.
 fn lists() -> &'static Met {
     static MET: OnceLock<Met> = OnceLock::new();
     MET.get_or_init(|| {
         let mut met = Met::default();
-        for number in 0..3000 {
+        for number in 0..5000 {
             list(&mut Random::for_case(2055, number), &mut met);
         }
         met
@@ -221,13 +220,57 @@ fn every_call_ends_by_every_question() {
     ];
     for call in calls {
         for &question in [0].iter().chain(call.questions()) {
-            let often = met.ends.get(&(name(&call), question));
-            assert!(often.is_some_and(|often| *often >= 10), "{} by {question}: {often:?}", name(&call));
+            let often = met.ends.get(&(call.name(), question));
+            assert!(often.is_some_and(|often| *often >= 10), "{} by {question}: {often:?}", call.name());
         }
-        let asked = met.ends.keys().filter(|(of, _)| *of == name(&call)).count();
-        assert_eq!(asked, 1 + call.questions().len(), "{}", name(&call));
+        let asked = met.ends.keys().filter(|(of, _)| *of == call.name()).count();
+        assert_eq!(asked, 1 + call.questions().len(), "{}", call.name());
     }
     assert!(met.audits.iter().all(|often| *often > 100));
+}
+
+/// "Only a keep can meet 12" (02, wish 2), on a stranger's memory too.
+#[test]
+fn only_a_keep_meets_12() {
+    let ends = &lists().ends;
+    let by_12: Vec<&str> =
+        ends.keys().filter(|(_, question)| *question == 12).map(|(name, _)| *name).collect();
+    assert_eq!(by_12, ["keep"]);
+    assert!(ends[&("keep", 12)] > 500, "{}", ends[&("keep", 12)]);
+}
+
+/// After a last request at 60.
+#[test]
+fn late_times_are_told_apart() {
+    let mut late = Late::default();
+    let early = [Call::Position(60), Call::UnitsBetween(60, 59), Call::Drop(61), Call::Insert(61, 7, 1)];
+    early.iter().for_each(|call| late.note(call, 60));
+    assert!(late.all().iter().all(|(_, often)| *often == 0));
+    let (end, pair) = (u64::MAX, |a, b| Call::NetChange(a, b, 0, 0));
+    let calls = [Call::Position(61), Call::Keep(69), Call::UnitsBetween(70, 60), pair(60, 61), pair(61, end)];
+    calls.iter().chain(&calls[..1]).for_each(|call| late.note(call, 60));
+    let met: Vec<_> = late.all().into_iter().filter(|(_, often)| *often > 0).collect();
+    let expected = [
+        (["position", "its time", "by one"], 2),
+        (["net change", "the second", "by one"], 1),
+        (["net change", "both", "the last time there is"], 1),
+        (["units between", "the first", "far"], 1),
+        (["keep", "its time", "by little"], 1),
+    ];
+    assert_eq!(met, expected);
+}
+
+/// Every query for times after the last request, by little and by much, the one, the other or both of a pair.
+#[test]
+fn times_after_the_last_are_met() {
+    let Met { late, late_views, .. } = lists();
+    let all = late.all();
+    assert_eq!(all.len(), 44);
+    assert!(all.iter().all(|(_, often)| *often >= 20), "{all:?}");
+    // no request is between: time 0 where there is none at all, a file of the last time, the current table
+    let views: Vec<_> = late_views.keys().copied().collect();
+    assert_eq!(views, [("area", false, 0), ("current", true, 0), ("empty", false, 0)]);
+    assert!(late_views.values().all(|often| *often >= 50), "{late_views:?}");
 }
 
 #[test]

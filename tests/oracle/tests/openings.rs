@@ -182,8 +182,7 @@ fn empty_log() {
     let mut store = Store::over(memory);
     store.open().unwrap();
     assert!(store.audit());
-    assert_eq!(position(&store, 0), (0, 0));
-    assert_eq!(refused(store.position(1)), 12);
+    assert_eq!((position(&store, 0), position(&store, 1)), ((0, 0), (0, 0)));
     assert_eq!(refused(store.keep(0)), 14);
     assert_eq!(refused(store.keep(1)), 12);
 }

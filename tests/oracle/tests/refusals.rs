@@ -266,42 +266,27 @@ fn limit_of_records() {
     assert!(store.audit());
 }
 
+/// A time after the last request, here 61, is no question of theirs (02, wish 2).
 #[test]
 fn queries() {
     let store = by_hand();
     let (mut output, mut workspace) = (vec![STRANGE; 96], vec![STRANGE; 64]);
-    assert_eq!(refused(store.position(61)), 12);
-    assert_eq!(refused(store.view(61)), 12);
-    assert_eq!(refused(store.table(61, &mut output[..31])), 12);
-    assert_eq!(refused(store.table(60, &mut output[..31])), 13);
-    assert_eq!(refused(store.net_change(61, 60, &mut output[..95], &mut workspace)), 12);
-    assert_eq!(refused(store.net_change(60, 61, &mut output, &mut workspace[..63])), 12);
-    assert_eq!(refused(store.net_change(60, 20, &mut output[..95], &mut workspace)), 13);
-    assert_eq!(refused(store.net_change(60, 20, &mut output, &mut workspace[..63])), 13);
-    assert!(output.iter().chain(&workspace).all(|byte| *byte == STRANGE));
-    assert!(store.table(60, &mut output[..32]).is_ok());
-    assert!(store.net_change(60, 20, &mut output, &mut workspace).is_ok());
-}
-
-/// 12 by either time, and by neither.
-#[test]
-fn units() {
-    let mut store = by_hand();
-    for t in [61, u64::MAX] {
-        assert_eq!(refused(store.units(t)), 12);
-        assert_eq!(refused(store.units_between(t, 60)), 12);
-        assert_eq!(refused(store.units_between(60, t)), 12);
-        assert_eq!(refused(store.units_between(t, t)), 12);
+    for t in [60, 61, u64::MAX] {
+        assert_eq!(refused(store.table(t, &mut output[..31])), 13);
+        for [a, b] in [[t, 20], [20, t], [t, t], [t, 60]] {
+            assert_eq!(refused(store.net_change(a, b, &mut output[..95], &mut workspace)), 13);
+            assert_eq!(refused(store.net_change(a, b, &mut output, &mut workspace[..63])), 13);
+        }
     }
-    assert!(store.units(60).is_ok() && store.units_between(60, 60).is_ok());
-    // a later request makes the time one that is answered
-    store.delete(61, 9).unwrap();
-    assert!(store.units(61).is_ok() && store.units_between(61, 60).is_ok());
-    let store = fresh(3, 2, 4);
-    assert!(store.units(0).is_ok() && store.units_between(0, 0).is_ok());
-    assert_eq!(refused(store.units(1)), 12);
-    assert_eq!(refused(store.units_between(1, 0)), 12);
-    assert_eq!(refused(store.units_between(0, 1)), 12);
+    assert!(output.iter().chain(&workspace).all(|byte| *byte == STRANGE));
+    for t in [60, 61, u64::MAX] {
+        assert!(store.position(t).is_ok() && store.view(t).is_ok() && store.units(t).is_ok());
+        assert!(store.table(t, &mut output[..32]).is_ok());
+        for [a, b] in [[t, 20], [20, t], [t, t], [t, 60]] {
+            assert!(store.units_between(a, b).is_ok());
+            assert!(store.net_change(a, b, &mut output, &mut workspace).is_ok());
+        }
+    }
 }
 
 #[test]

@@ -2,9 +2,9 @@
 
 mod common;
 
-use common::{opened_with, outset, position, table};
+use common::{opened_with, outset, position, set::by_the_set, table};
 use oracle::generate::legal_log;
-use oracle::layout::{Record, Row, INSERTION};
+use oracle::layout::INSERTION;
 use oracle::log::page_times;
 use oracle::outset::Side;
 use oracle::random::Random;
@@ -14,19 +14,6 @@ use oracle::samples::{
 };
 use oracle::table::timeslice;
 use oracle::tree::page_position;
-
-/// Section 2.2's set, written as it stands.
-fn by_the_set(records: &[Record], t: u64) -> Vec<Row> {
-    let countered = |i: usize| {
-        records[i + 1..].iter().any(|later| later.article == records[i].article && later.time <= t)
-    };
-    let mut rows: Vec<Row> = (0..records.len())
-        .filter(|&i| records[i].kind == INSERTION && records[i].time <= t && !countered(i))
-        .map(|i| Row { article: records[i].article, count: records[i].count })
-        .collect();
-    rows.sort();
-    rows
-}
 
 #[test]
 fn timeslice_is_the_set() {

@@ -78,8 +78,8 @@ work-out-both-requires c κs =
     let x = c1 .before .before .before .before .before .before .before .before .args in
     let fine = c1 .before .is-sound .ensures .1 (c1 .if1 .taken) in
     record {
-      first-ready = ready-of fine (rw (first .answered-time .ensures) (answered-le _ _)) refl;
-      second-ready = ready-of fine (rw (second .answered-time2 .ensures) (answered-le _ _)) refl;
+      first-ready = ready-of fine (omega (arith, first .answered-time .ensures, answered-le (x .s .last) (x .a))) refl;
+      second-ready = ready-of fine (omega (arith, second .answered-time2 .ensures, answered-le (x .s .last) (x .b))) refl;
       work-is = length-take-le (16 * x .s .limit - 0) (x .work .now) (omega arith) ∙ sub-zero (16 * x .s .limit);
     }
 
@@ -131,9 +131,10 @@ returns-4 c catalogue e =
     let known : AreBytes (x .log .now) = λ i. omega (arith, bytes .shared-slice-known .given i) in
     let size : length (take (24 * R - 0) (x .out .now)) ≡ 24 * R = length-take-le (24 * R - 0) (x .out .now) (omega (arith, c2 .if2 .left)) ∙ sub-zero (24 * R) in
     let space : length (take (16 * R - 0) (x .work .now)) ≡ 16 * R = length-take-le (16 * R - 0) (x .work .now) (omega (arith, c3 .if3 .left)) ∙ sub-zero (16 * R) in
-    net-answers (storeOf (x .s) (x .log .now) (x .index .now) (x .current .now) catalogue (x .areas .now)) (x .a) (x .b) (x .out .now) (x .work .now) (x .c) (w .work-out-both .result) (k .merge-both .result) _ _
+    net-answers (storeOf (x .s) (x .log .now) (x .index .now) (x .current .now) catalogue (x .areas .now)) (x .a) (x .b) (x .out .now) (x .work .now) (x .c) (w .work-out-both .result) (k .merge-both .result) (first .answered-time .result) (second .answered-time2 .result) _ _
+    (first .answered-time .ensures) (second .answered-time2 .ensures)
     (w .work-out-both .kept .1 .1 .1 .1 .1 .1 .1 .1 .0 ∙ space) (k .merge-both .kept .1 .1 .1 .0 ∙ size) known
-    (loaded-by-value catalogue e (x .s .files) (fine .files-sixteen) (rw lent at (fine .files-lent))) (rw (first .answered-time .ensures, second .answered-time2 .ensures) at (w .work-out-both .ensures .1)) (k .merge-both .ensures .1)
+    (loaded-by-value catalogue e (x .s .files) (fine .files-sixteen) (rw lent at (fine .files-lent))) (w .work-out-both .ensures .1) (k .merge-both .ensures .1)
     (rw (← ap (λ (y : Catalogue). y .lent) e) (sym (q .is-sound .ensures .0) ∙ c1 .if1 .taken)) (omega (arith, c2 .if2 .left)) (omega (arith, c3 .if3 .left))
 
 pub net-change-spec : {M : Type 1} → statement M

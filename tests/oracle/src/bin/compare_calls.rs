@@ -3,7 +3,7 @@
 //! audit denies, where 01 leaves most answers open, it compares question 1, that a refusal changes nothing, the
 //! bytes no call names, and the audit's own answer. Bytes are lent at odd places, others from call to call.
 
-use oracle::calls::{call, damage, last_records, start, Call, Plan};
+use oracle::calls::{call, damage, last_records, start, Call, Late, Plan};
 use oracle::layout::HEADER_BYTES;
 use oracle::lent::{Lent, STRANGE};
 use oracle::log::log_length;
@@ -20,6 +20,9 @@ use std::process::ExitCode;
 
 /// The seed where none is given, so that two runs make the same lists.
 const SEED: u64 = 2055;
+
+/// A run of so many lists must meet every kind of time after the last request.
+const LONG: u64 = 2_000;
 
 /// Stores near the most records there are: order, page size, records left.
 const ENDS: [(u16, u16, u32); 4] = [(64, 64, 2), (64, 64, 1), (3, 2, 2), (2, 2, 1)];
@@ -105,9 +108,10 @@ fn main() -> ExitCode {
             );
         }
     }
+    let mut late = Late::default();
     for number in 0..lists {
         match catch_unwind(|| compare_list(&mut Random::for_case(seed, number))) {
-            Ok(Ok(())) => {}
+            Ok(Ok(more)) => late.add(more),
             Ok(Err(difference)) => return report(&format!("seed {seed}, list {number}"), &difference),
             Err(_) => {
                 println!("seed {seed}, list {number}: stopped");
@@ -116,6 +120,22 @@ fn main() -> ExitCode {
         }
     }
     println!("{lists} lists of calls agree (seed {seed})");
+    report_late(&late, lists)
+}
+
+/// How often which call was asked for a time after the last request. Fails if a long run never met one kind of it.
+fn report_late(late: &Late, lists: u64) -> ExitCode {
+    println!("times after the last request:");
+    for kinds in late.all().chunk_by(|(kind, _), (next, _)| kind[..2] == next[..2]) {
+        let [name, which, _] = kinds[0].0;
+        let each: Vec<String> = kinds.iter().map(|([.., far], often)| format!("{far} {often}")).collect();
+        println!("  {name}, {which}: {}", each.join(", "));
+    }
+    let never = late.all().iter().any(|(_, often)| *often == 0);
+    if never && lists >= LONG {
+        println!("one of these was never met");
+        return ExitCode::FAILURE;
+    }
     ExitCode::SUCCESS
 }
 
@@ -133,14 +153,16 @@ fn read_arguments(arguments: &[String]) -> Option<(u64, u64)> {
     }
 }
 
-/// One list, up to its end or the first difference.
-fn compare_list(random: &mut Random) -> Result<(), Difference> {
+/// One list, up to its end or the first difference: the times after the last request that it asked for where answers
+/// are compared whole.
+fn compare_list(random: &mut Random) -> Result<Late, Difference> {
     let (memory, first) = start(random);
     let plan = Plan::new(random);
     let mut oracle = Store::over(memory);
     // numbers and memory of the proved store
     let mut proved = oracle.clone();
     let mut calls = Vec::new();
+    let mut late = Late::default();
     let mut damaged = false;
     let mut next = first;
     for _ in 0..plan.calls {
@@ -159,13 +181,19 @@ fn compare_list(random: &mut Random) -> Result<(), Difference> {
                 compare_whole(&mut oracle, &mut proved, next, odd)
             }
             _ if damaged && !oracle.audit() => compare_denied(&mut oracle, &mut proved, next, odd),
-            _ => compare_whole(&mut oracle, &mut proved, next, odd),
+            _ => {
+                if question_1(&oracle) {
+                    late.note(&next, oracle.numbers.last);
+                }
+                compare_whole(&mut oracle, &mut proved, next, odd)
+            }
         };
         compared.map_err(|what| Difference { calls: calls.clone(), what })?;
         next = call(random, &plan, &oracle);
     }
     calls.push(Call::Audit);
-    compare_whole(&mut oracle, &mut proved, Call::Audit, 0).map_err(|what| Difference { calls, what })
+    compare_whole(&mut oracle, &mut proved, Call::Audit, 0).map_err(|what| Difference { calls, what })?;
+    Ok(late)
 }
 
 /// The list of a store near its last record.
@@ -239,7 +267,7 @@ fn compare_refusal(
     Ok(())
 }
 
-/// A position of time 0 is refused by question 1 alone.
+/// A position is refused by question 1 alone.
 fn question_1(store: &Store) -> bool {
     store.position(0).is_ok()
 }

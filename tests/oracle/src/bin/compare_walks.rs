@@ -69,12 +69,12 @@ fn compare(random: &mut Random, row_limit: u32, pool: Option<&[u32]>) -> usize {
     let [left, right] = &mut [1, 1].map(|fill| vec![fill; area]);
     for k in 0..=FILES as u64 {
         for _ in 0..TIMES {
-            let t = random.from(0, last);
+            let t = asked(random, last);
             let rows = proved.table(t, left).unwrap().rows as usize;
             assert_eq!(rows, plain.table(t, right), "limit {row_limit}, time {t}");
             assert!(left == right, "limit {row_limit}, time {t}");
             assert_eq!(proved.units(t).unwrap(), plain.units(t), "limit {row_limit}, time {t}");
-            let other = random.from(0, last);
+            let other = asked(random, last);
             let between = proved.units_between(t, other).unwrap();
             assert_eq!(between, plain.units_between(t, other), "limit {row_limit}, from {t} to {other}");
         }
@@ -86,4 +86,13 @@ fn compare(random: &mut Random, row_limit: u32, pool: Option<&[u32]>) -> usize {
     }
     assert!(proved.memory.areas == plain.areas && proved.memory.entries == plain.entries);
     TIMES * (FILES + 1)
+}
+
+/// A time up to the last request, or sometimes one after it.
+fn asked(random: &mut Random, last: u64) -> u64 {
+    if random.percent(10) {
+        random.pick(&[last + 1, last + 1_000, u64::MAX])
+    } else {
+        random.from(0, last)
+    }
 }

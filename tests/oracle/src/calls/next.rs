@@ -21,11 +21,12 @@ pub fn call(random: &mut Random, plan: &Plan, store: &Store) -> Call {
         }
         return Call::Fresh(random.from(2, 5) as u16, random.from(2, 4) as u16, random.from(1, 6) as u32);
     }
-    let t = time(random, store);
     if random.percent(plan.appends) {
-        let next = if random.percent(94) { last.saturating_add(random.from(1, plan.step)) } else { t };
+        let rising = random.percent(94);
+        let next = if rising { last.saturating_add(random.from(1, plan.step)) } else { time(random, store) };
         return append(random, plan, store, next);
     }
+    let t = asked(random, store);
     if random.percent(plan.files) {
         let keeps = random.percent(plan.keeps);
         return if keeps { Call::Keep(t) } else { Call::Drop(kept_time(random, store).unwrap_or(t)) };
@@ -37,10 +38,10 @@ pub fn call(random: &mut Random, plan: &Plan, store: &Store) -> Call {
         28..=45 => Call::View(t),
         46..=61 => {
             let (output, workspace) = (near(random, 3 * length), near(random, 2 * length));
-            Call::NetChange(t, time(random, store), output, workspace)
+            Call::NetChange(t, asked(random, store), output, workspace)
         }
         62..=69 => Call::Units(t),
-        70..=84 => Call::UnitsBetween(t, time(random, store)),
+        70..=84 => Call::UnitsBetween(t, asked(random, store)),
         85..=93 => Call::Audit,
         94..=97 => Call::Open,
         _ => {
@@ -68,6 +69,26 @@ fn article(random: &mut Random, plan: &Plan, store: &Store, present: u64) -> u32
         return Row::read(&store.memory.table[ROW_BYTES * random.place(live)..]).article;
     }
     random.from(0, plan.articles as u64) as u32
+}
+
+/// A time that a query or a keep asks for: often one after the last request.
+fn asked(random: &mut Random, store: &Store) -> u64 {
+    if random.percent(12) {
+        late(random, store.numbers.last)
+    } else {
+        time(random, store)
+    }
+}
+
+/// A time after the last request, if there is one: the next, a little or far past it, or one of the last three there are.
+fn late(random: &mut Random, last: u64) -> u64 {
+    match random.from(0, 4) {
+        0 => last.saturating_add(1),
+        1 => last.saturating_add(random.from(2, 9)),
+        2 => last.saturating_add(1 << random.from(4, 63)),
+        3 => random.from(last, u64::MAX),
+        _ => last.max(u64::MAX - random.from(0, 2)),
+    }
 }
 
 /// A time between the requests, at one or beside it, at a count file or beside it, at an end, or past the last.

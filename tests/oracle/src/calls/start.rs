@@ -105,5 +105,11 @@ pub fn last_records(order: u16, page_size: u16, left: u32) -> (Memory, Vec<Call>
         calls.extend([Call::View(t / 2 + 1), Call::NetChange(t / 2, t, 48, 32), Call::Units(t / 2)]);
         calls.extend([Call::Units(t), Call::UnitsBetween(t, t / 2 + 1), Call::Audit, Call::Drop(t)]);
     }
+    // after the last request
+    for t in [65_700, u64::MAX] {
+        calls.extend([Call::Position(t), Call::Table(t, 16), Call::View(t), Call::Keep(t), Call::Units(t)]);
+        calls.extend([Call::NetChange(t, 9, 48, 32), Call::NetChange(9, t, 48, 32)]);
+        calls.extend([Call::UnitsBetween(t, 9), Call::UnitsBetween(9, t), Call::UnitsBetween(t, 65_700)]);
+    }
     (memory, calls)
 }

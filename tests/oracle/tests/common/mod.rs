@@ -3,6 +3,7 @@
 
 pub mod generated;
 pub mod legal;
+pub mod set;
 pub mod units;
 
 use oracle::layout::{Header, Record, Row};
@@ -108,9 +109,10 @@ pub fn records_between(records: &[Record], a: u64, b: u64) -> u32 {
     records.iter().filter(|record| low < record.time && record.time <= high).count() as u32
 }
 
-/// 01's two candidates for t.
+/// 01's two candidates for t; after the last request, those of its time (02, wish 2).
 pub fn candidates(store: &Store, t: u64) -> [Held; 2] {
     let (kept, last) = (store.kept(), store.numbers.last);
+    let t = t.min(last);
     [earlier_candidate(kept, last, t), later_candidate(kept, last, t)]
 }
 

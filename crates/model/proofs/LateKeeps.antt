@@ -2,15 +2,16 @@
 -- the last is. Assumes nothing.
 use Prim.Native.Nat.{ℕ, _<_}
 use mathlib.Core.Path.{_≡_, refl, sym, _∙_}
-use mathlib.Core.List.{List, [], _∷_}
+use mathlib.Core.List.{List, [], _∷_, _++_, map}
 use mathlib.Core.Bool.{Bool, true, false, cond, false≢true}
+use lib.ListN.{replicate}
 use lib.IntN.{ℤ}
 use lib.Dec.{eqb}
 use borrow.Author.Tests.{lt-leb}
 use Rattle.model.specs.declared.Position.{Position}
 use Rattle.model.specs.Answers.{Outcome, refuses, Question, firstNo, TableSaid}
 use Rattle.model.specs.Memory.{Memory, State, sound, standing}
-use Rattle.model.specs.Starts.{After, freshQuestions, freshOf, openQuestions, wellWritten, openOf, notStarted}
+use Rattle.model.specs.Starts.{After, after, freshQuestions, freshOf, openQuestions, wellWritten, openOf, notStarted}
 use Rattle.model.specs.Changes.{unchanged, insertQuestions, presentQuestions, insertOf, deleteOf, updateOf}
 use Rattle.model.specs.Queries.{positionOf, Written, tableQuestions, tableOf, Viewed, viewOf, Netted, netQuestions, netOf}
 use Rattle.model.specs.Files.{keepOf, dropQuestions, dropOf}
@@ -19,6 +20,20 @@ use Rattle.model.specs.Promises.{refusedBy}
 use Rattle.model.specs.Calls.{Start, fresh, opening, begun, Call, answerOf}
 use Rattle.model.specs.LateTimes.{asks, TimeAskedByKeep, saidRefusedBy, IsKeep, keeps, OnlyKeepMeets12}
 use Rattle.model.proofs.PromiseLaws.{unless}
+use Rattle.model.proofs.LateComputed.{computing, two, filed}
+
+-- ---- computed
+
+late-keeps : (keepOf two 21 ∷ keepOf filed 21 ∷ []) ≡ after (refuses 12) two ∷ after (refuses 12) filed ∷ []
+unfolding computing
+late-keeps = refl
+
+-- which calls for 21 are refused by 12
+met : map (λ (c : Call). saidRefusedBy 12 (answerOf two c))
+    (Call.position 21 ∷ Call.table 21 [] ∷ Call.view 21 ∷ Call.netChange 21 21 [] [] ∷ Call.units 21 ∷ Call.difference 21 21 ∷ Call.keep 20 ∷ Call.keep 21 ∷ [])
+    ≡ replicate 7 false ++ (true ∷ [])
+unfolding computing
+met = refl
 
 -- ---- the questions
 
