@@ -35,10 +35,10 @@
  *              above the last one's, so the first is 1 or more; time 0 is that of the empty table, and no
  *              request has it.
  * Late times   Position, table, view, units, units between and net change answer a time after the last
- *              request as they answer the last request's own, `later` and `requests_between` included; with
- *              no request yet, as time 0. So the clock's time may be asked for. Nothing is remembered: after
- *              a further append such a time is answered anew. Only yk_keep refuses it, by 12, because a
- *              later request could make the file wrong.
+ *              request as they answer the last request's own, `later` and `requests_between` included: that
+ *              is the time answered. With no request yet it is time 0. So the clock's time may be asked for.
+ *              Nothing is remembered: after a further append such a time is answered anew. Only yk_keep
+ *              refuses it, by 12, because a later request could make the file wrong.
  * Saving       Save the first 24 + 24 x records bytes of the log, which yk_store_log_bytes counts. Nothing
  *              else need be: yk_open makes index, table and numbers from them. Count files are not saved;
  *              keep them again.
@@ -135,8 +135,8 @@ typedef struct yk_position_answer {
 typedef struct yk_table_answer {
     uint8_t question;          /* an enum yk_question; all else is 0 where refused */
     uint32_t rows;             /* rows of the table */
-    uint8_t later;             /* 1 if it was worked out from a table at or after its time, else 0 */
-    uint32_t requests_between; /* how many requests lie between that table and the time, two for an update */
+    uint8_t later;             /* 1 if it was worked out from a table at or after the time answered, else 0 */
+    uint32_t requests_between; /* how many requests lie between that table and that time, two for an update */
 } yk_table_answer;
 
 typedef struct yk_view_answer {
@@ -144,8 +144,8 @@ typedef struct yk_view_answer {
     uint8_t place;             /* an enum yk_place */
     uint32_t area;             /* at YK_AREA the number of the area, from 0; else 0 */
     uint32_t rows;             /* rows there */
-    uint8_t later;             /* 1 if they are those of a time at or after the one asked for, else 0 */
-    uint32_t requests_between; /* how many requests lie between that time and the one asked for, two for an update */
+    uint8_t later;             /* 1 if they are those of a time at or after the one answered, else 0 */
+    uint32_t requests_between; /* how many requests lie between those two times, two for an update */
     size_t start;              /* the part they fill: its first byte in areas (YK_AREA) or in table */
     size_t length;             /* and its bytes, 8 for each row */
 } yk_view_answer;
@@ -450,7 +450,7 @@ static inline enum yk_question yk_store_update(yk_store *store, uint64_t time, u
     return yk_store_take(store, yk_update(s.numbers, YK_LENT(s), time, article, count));
 }
 
-/* yk_keep: a time up to numbers.last. */
+/* yk_keep: a time from 1 to numbers.last. */
 static inline enum yk_question yk_store_keep(yk_store *store, uint64_t time) {
     yk_store s = yk_store_lent(store);
     return yk_store_take(store, yk_keep(s.numbers, YK_LENT(s), time));

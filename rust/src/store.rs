@@ -280,7 +280,7 @@ impl<'a> Store<'a> {
     }
 
     /// Keeps the table of a time as a count file, so that tables near it are found sooner. A time after the last is
-    /// refused by 12, because a later request could make the file wrong: keep the last one itself.
+    /// refused by 12, because a later request could make the file wrong: keep the last one itself, if there is one.
     ///
     /// Refuses by 1, 12, 14, 15.
     ///

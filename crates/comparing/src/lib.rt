@@ -100,7 +100,17 @@ pub fn net_change<'a>(
     }
     let from = tables::answered_time(s.last, a);
     let to = tables::answered_time(s.last, b);
-    let n = work_out_both(s, log, index, current, areas, c, from, to, &mut work[0..space]);
+    let n = work_out_both(
+        s,
+        log,
+        index,
+        current,
+        areas,
+        c,
+        from,
+        to,
+        &mut work[0..space],
+    );
     let k = merge_both(s.limit, n, work, &mut out[0..size]);
     NetChangeAnswer::Entries(k as u32)
 }

@@ -1,9 +1,10 @@
 -- Times after the last request (02, wish 2), computed on a store of two insertions, 5:8 at time 10 and 6:9 at 20: what each query
--- answers for 10, for 20 and for late times, with the last time kept and without; and on memory that the audit denies, with a
--- record after the last time, which late times do not show. Assumes nothing.
+-- answers for 10, for 20 and for late times, tables and views also with the last time kept; and on memory that the audit denies,
+-- with a record after the last time, which late times do not show. Assumes nothing.
 use Prim.Native.Nat.{ℕ}
 use mathlib.Core.Path.{_≡_, refl}
 use mathlib.Core.List.{List, [], _∷_, _++_, map}
+use mathlib.Core.Bool.{false}
 use lib.ListN.{replicate}
 use lib.IntN.{pos, negsuc}
 use Rattle.codec.specs.LittleEndian.{number, bytes}
@@ -29,12 +30,14 @@ use Rattle.model.specs.NetChange.{missing, placed, arranged, netChange, 
 use Rattle.model.specs.Queries.{answeredTime, positionOf, Written, tableOf, rowsPart, Viewed, viewOf, Netted, netOf}
 use Rattle.model.specs.Files.{filesIn, areasBytes, isKept, fileIn, keepOf}
 use Rattle.model.specs.Units.{inserted, deleted, unitsAt, difference, unitsOf, differenceOf}
+use Rattle.model.specs.Legal.{formed, lastFrom, isUpdate, inTime, allowed, legalNext, legalAfter}
+use Rattle.model.specs.Audit.{logAudited, tableAudited, indexAudited, filesAudited, entriesZero, restAudited, auditOf}
 use Rattle.model.specs.Promises.{refusedBy}
 use Rattle.model.specs.Calls.{answerOf}
 use Rattle.model.specs.LateTimes.{saidRefusedBy}
 
 unfoldable pub computing : Unit {0}
-unfolding number bytes same firstNo orderInRange pageSizeInRange rowLimitInRange recordsInRange recordBytes recordsBytes recordIn records headerBytes lacks hasRow countOf putIn without rowBytes rowsBytes tableBytes named table upTo timeslice pageTimesFrom valuationUpTo cofactorUpTo valuation cofactor opens opened nodes leafNode keysUpTo capacity headerIs numbersInRange logLong indexLong tableLong fits filesFrom latest earliest chooseBy missing placed arranged netChange changeBytes changesBytes netChangeBytes answeredTime positionOf tableOf rowsPart viewOf netOf filesIn areasBytes isKept fileIn keepOf inserted deleted unitsAt difference unitsOf differenceOf refusedBy answerOf saidRefusedBy
+unfolding number bytes same firstNo orderInRange pageSizeInRange rowLimitInRange recordsInRange recordBytes recordsBytes recordIn records headerBytes lacks hasRow countOf putIn without rowBytes rowsBytes tableBytes named table upTo timeslice pageTimesFrom valuationUpTo cofactorUpTo valuation cofactor opens opened nodes leafNode keysUpTo capacity headerIs numbersInRange logLong indexLong tableLong fits filesFrom latest earliest chooseBy missing placed arranged netChange changeBytes changesBytes netChangeBytes answeredTime positionOf tableOf rowsPart viewOf netOf filesIn areasBytes isKept fileIn keepOf inserted deleted unitsAt difference unitsOf differenceOf formed lastFrom isUpdate inTime allowed legalNext legalAfter logAudited tableAudited indexAudited filesAudited entriesZero restAudited auditOf refusedBy answerOf saidRefusedBy
 computing = tt
 
 -- ---- the store
@@ -97,6 +100,10 @@ views-filed : map (viewOf filed) times ≡ seen Empty 0 Earlier 1 [] ∷ replica
 unfolding computing
 views-filed = refl
 
+tables-filed : map (λ (t : ℕ). tableOf filed t (replicate 16 3)) times ≡ told 1 Earlier 1 rows10 ∷ replicate 3 (told 2 Earlier 0 rows20)
+unfolding computing
+tables-filed = refl
+
 units : map (unitsOf two) times ≡ answers 8 ∷ answers 17 ∷ answers 17 ∷ answers 17 ∷ []
 unfolding computing
 units = refl
@@ -132,6 +139,10 @@ strange =
       catalogue = [];
       areas = [];
     })
+
+denied : auditOf strange ≡ false
+unfolding computing
+denied = refl
 
 strange-positions : map (positionOf strange) times ≡ replicate 4 (at 1)
 unfolding computing

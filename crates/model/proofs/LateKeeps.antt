@@ -10,7 +10,7 @@ use lib.Dec.{eqb}
 use borrow.Author.Tests.{lt-leb}
 use Rattle.model.specs.declared.Position.{Position}
 use Rattle.model.specs.Answers.{Outcome, refuses, Question, firstNo, TableSaid}
-use Rattle.model.specs.Memory.{Memory, State, sound, standing}
+use Rattle.model.specs.Memory.{State, sound, standing}
 use Rattle.model.specs.Starts.{After, after, freshQuestions, freshOf, openQuestions, wellWritten, openOf, notStarted}
 use Rattle.model.specs.Changes.{unchanged, insertQuestions, presentQuestions, insertOf, deleteOf, updateOf}
 use Rattle.model.specs.Queries.{positionOf, Written, tableQuestions, tableOf, Viewed, viewOf, Netted, netQuestions, netOf}

@@ -21,7 +21,7 @@ use Rattle.model.specs.Between.{requestsBetween}
 use Rattle.model.specs.Queries.{answeredTime, rowsAt, positionOf, tableOf, viewOf, netOf}
 use Rattle.model.specs.Units.{unitsAt, unitsOf, differenceOf}
 use Rattle.model.specs.Facts.{AuditedFacts}
-use Rattle.model.specs.LateTimes.{AsBefore, AsTheLast, EveryTimeAnswered}
+use Rattle.model.specs.LateTimes.{AsBefore, AsTheLast, AsTimeZero, EveryTimeAnswered}
 use Rattle.model.proofs.Compare.{and-left, and-right}
 use Rattle.model.proofs.UpToLaws.{up-to-all}
 use Rattle.model.proofs.TimeLaws.{time-last}
@@ -71,10 +71,26 @@ module _ (st : State) where
         difference = λ a b h g. rw (answered-held last a h, answered-held last b g, le-leb a last h, le-leb b last g);
       }
 
+  pub as-the-last : AsTheLast st
+  unfolding positionOf tableOf viewOf netOf unitsOf differenceOf
+  as-the-last =
+      let last = st .numbers .last in
+      let one : (t : ℕ) → last < t → answeredTime last t ≡ answeredTime last last = λ t h. answered-late last t (omega arith) ∙ sym (answered-last last) in
+      record {
+        position = λ t h. rw (one t h);
+        table = λ t out h. rw (one t h);
+        view = λ t h. rw (one t h);
+        net-change-from = λ a b out work h. rw (one a h);
+        net-change-to = λ a b out work h. rw (one b h);
+        units = λ t h. rw (one t h);
+        difference-from = λ a b h. rw (one a h);
+        difference-to = λ a b h. rw (one b h);
+      }
+
   -- by question 1: no header has a last time and no record
-  no-record : sound st ≡ true → st .numbers .records ≡ 0 → st .numbers .last ≡ 0
+  last-none : sound st ≡ true → st .numbers .records ≡ 0 → st .numbers .last ≡ 0
   unfolding fits headerIs
-  no-record q e =
+  last-none q e =
       let s = st .numbers in
       let m = st .memory in
       let numbers = numbersInRange s in
@@ -93,25 +109,37 @@ module _ (st : State) where
       let h = and-left none bytes (and-right (numbers && log) header h3) in
       eqb-true _ _ (rw (eq-eqb _ _ e) at h)
 
-  pub as-the-last : AsTheLast st
-  unfolding positionOf tableOf viewOf netOf unitsOf differenceOf
-  as-the-last =
-      let last = st .numbers .last in
-      let one : (t : ℕ) → last < t → answeredTime last t ≡ answeredTime last last = λ t h. answered-late last t (omega arith) ∙ sym (answered-last last) in
-      record {
-        position = λ t h. rw (one t h);
-        table = λ t out h. rw (one t h);
-        view = λ t h. rw (one t h);
-        net-change-from = λ a b out work h. rw (one a h);
-        net-change-to = λ a b out work h. rw (one b h);
-        units = λ t h. rw (one t h);
-        difference-from = λ a b h. rw (one a h);
-        difference-to = λ a b h. rw (one b h);
-        no-record = no-record;
-      }
+  -- a store that question 1 refuses answers 1 to both
+  pub as-time-zero : st .numbers .records ≡ 0 → AsTimeZero st
+  unfolding positionOf tableOf viewOf netOf unitsOf differenceOf firstNo
+  as-time-zero e = by (sound st) refl
+    where
+      by : (q : Bool) → sound st ≡ q → AsTimeZero st
+      by true q =
+          let last = st .numbers .last in
+          let none = last-none q e in
+          let zero : (t : ℕ) → answeredTime last t ≡ answeredTime last 0 =
+          λ t. answered-late last t (omega arith) ∙ sym (answered-late last 0 (omega arith)) in
+          record {
+            position = λ t. rw (zero t);
+            table = λ t out. rw (zero t);
+            view = λ t. rw (zero t);
+            net-change = λ a b out work. rw (zero a, zero b);
+            units = λ t. rw (zero t);
+            difference = λ a b. rw (zero a, zero b);
+          }
+      by false q =
+          record {
+            position = λ t. rw q;
+            table = λ t out. rw q;
+            view = λ t. rw q;
+            net-change = λ a b out work. rw q;
+            units = λ t. rw q;
+            difference = λ a b. rw q;
+          }
 
 pub every-time-answered : EveryTimeAnswered
-every-time-answered st = (as-before st, as-the-last st)
+every-time-answered st = (as-before st, (as-the-last st, as-time-zero st))
 
 -- ---- where the audit passes the memory
 

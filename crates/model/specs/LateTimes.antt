@@ -56,7 +56,7 @@ pub record AsBefore (st : State) : Type 0 where
 
 -- ---- a later time
 
--- "now answer such a time as they answer the time of the last request", of two times each by itself; with no record that time is 0
+-- "now answer such a time as they answer the time of the last request", of two times each by itself
 pub record AsTheLast (st : State) : Type 0 where
   pub position : (t : ℕ) → st .numbers .last < t → positionOf st t ≡ positionOf st (st .numbers .last)
   pub table : (t : ℕ) (out : List ℕ) → st .numbers .last < t → tableOf st t out ≡ tableOf st (st .numbers .last) out
@@ -66,10 +66,18 @@ pub record AsTheLast (st : State) : Type 0 where
   pub units : (t : ℕ) → st .numbers .last < t → unitsOf st t ≡ unitsOf st (st .numbers .last)
   pub difference-from : (a b : ℕ) → st .numbers .last < a → differenceOf st a b ≡ differenceOf st (st .numbers .last) b
   pub difference-to : (a b : ℕ) → st .numbers .last < b → differenceOf st a b ≡ differenceOf st a (st .numbers .last)
-  pub no-record : sound st ≡ true → st .numbers .records ≡ 0 → st .numbers .last ≡ 0
+
+-- with no record, as time 0
+pub record AsTimeZero (st : State) : Type 0 where
+  pub position : (t : ℕ) → positionOf st t ≡ positionOf st 0
+  pub table : (t : ℕ) (out : List ℕ) → tableOf st t out ≡ tableOf st 0 out
+  pub view : (t : ℕ) → viewOf st t ≡ viewOf st 0
+  pub net-change : (a b : ℕ) (out work : List ℕ) → netOf st a b out work ≡ netOf st 0 0 out work
+  pub units : (t : ℕ) → unitsOf st t ≡ unitsOf st 0
+  pub difference : (a b : ℕ) → differenceOf st a b ≡ differenceOf st 0 0
 
 abbrev pub EveryTimeAnswered : Type 0
-EveryTimeAnswered = (st : State) → AsBefore st × AsTheLast st
+EveryTimeAnswered = (st : State) → AsBefore st × (AsTheLast st × (st .numbers .records ≡ 0 → AsTimeZero st))
 
 -- ---- "Only a keep can meet 12 from here on"
 

@@ -51,7 +51,7 @@ placed : positionOut (position.At (record { page = record { 0 = 7 }; requests = 
 unfolding positionOut
 placed = refl
 
-unplaced : positionOut (position.Refused TimeAfterLast) ≡ record { question = 12; page = 0; requests = 0 }
+unplaced : positionOut (position.Refused Header) ≡ record { question = 1; page = 0; requests = 0 }
 unfolding positionOut questionOf refusal
 unplaced = refl
 
@@ -90,17 +90,17 @@ fallen : differenceOut (difference.Difference (negsuc 17)) ≡ record { question
 unfolding differenceOut
 fallen = refl
 
-no-units : unitsOut (units.Refused TimeAfterLast) ≡ record { question = 12; units = 0 }
+no-units : unitsOut (units.Refused Header) ≡ record { question = 1; units = 0 }
 unfolding unitsOut questionOf refusal
 no-units = refl
 
-no-difference : differenceOut (difference.Refused TimeAfterLast) ≡ record { question = 12; units = pos 0 }
+no-difference : differenceOut (difference.Refused Header) ≡ record { question = 1; units = pos 0 }
 unfolding differenceOut questionOf refusal
 no-difference = refl
 
-late : netChangeOut (net.Refused TimeAfterLast) ≡ record { question = 12; entries = 0 }
+short : netChangeOut (net.Refused OutputShort) ≡ record { question = 13; entries = 0 }
 unfolding netChangeOut questionOf refusal
-late = refl
+short = refl
 
 lent : lengthsOut (lengths.Lend (record { log = 144; index = 8; table = 32; entries = 2; areas = 64; output = 96; workspace = 48 }))
     ≡ record { question = 0; log = 144; index = 8; table = 32; entries = 2; areas = 64; output = 96; workspace = 48 }

@@ -32,7 +32,7 @@ pub struct YkPosition {
     pub requests: u32,
 }
 
-// The answer of a table; `later` is 1 where the outset used lies at or after the time, else 0.
+// The answer of a table; `later` is 1 where the outset used lies at or after the time answered, else 0.
 #[repr(C)]
 pub struct YkTable {
     pub question: u8,

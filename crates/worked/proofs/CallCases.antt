@@ -15,8 +15,8 @@ use Rattle.model.specs.Rows.{Row, row}
 use Rattle.model.specs.Timeslice.{InReport}
 use Rattle.model.specs.Memory.{State, state}
 use Rattle.model.specs.Queries.{positionOf}
-use Rattle.model.specs.Files.{filesOf, isKept, dropOf}
-use Rattle.model.specs.Promises.{isRefused, refusedAmong, Asked}
+use Rattle.model.specs.Files.{filesOf, isKept, keepOf, dropOf}
+use Rattle.model.specs.Promises.{isRefused, refusedAmong, Asked, QueryAsked}
 use Rattle.model.specs.Calls.{Call, run, changed, positioned, written, viewed, netted, totalled, differed, audited, answerOf}
 use Rattle.model.specs.Demands.{heldNext, heldAfter}
 use Rattle.worked.proofs.Computing.{computing}
@@ -93,17 +93,22 @@ unfolding computing
 refused-among = refl
 
 -- question 1 answered no; none, for a time after the last and for the last
-asked-unsound : Asked unsound (positionOf unsound 11)
+asked-unsound : QueryAsked unsound (positionOf unsound 11)
 unfolding computing
-asked-unsound = record { standing-first = refl; never-17 = refl }
+asked-unsound = record { asked = record { standing-first = refl; never-17 = refl }; never-12 = refl }
 
-asked-late : Asked worked (positionOf worked 61)
+asked-late : QueryAsked worked (positionOf worked 61)
 unfolding computing
-asked-late = record { standing-first = refl; never-17 = refl }
+asked-late = record { asked = record { standing-first = refl; never-17 = refl }; never-12 = refl }
 
-asked-in-time : Asked worked (positionOf worked 60)
+asked-in-time : QueryAsked worked (positionOf worked 60)
 unfolding computing
-asked-in-time = record { standing-first = refl; never-17 = refl }
+asked-in-time = record { asked = record { standing-first = refl; never-17 = refl }; never-12 = refl }
+
+-- a keep, which may be refused by 12
+asked-keep : Asked worked (keepOf worked 61 .outcome)
+unfolding computing
+asked-keep = record { standing-first = refl; never-17 = refl }
 
 -- ---- the report's set
 

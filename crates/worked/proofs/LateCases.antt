@@ -22,7 +22,7 @@ use Rattle.worked.proofs.WorkedLog.{worked, located, table20, told, cha
 use Rattle.worked.proofs.WorkedStore.{kept20}
 use Rattle.worked.proofs.CallCases.{roomy}
 
--- the first time after the last, one far behind it, and 2 ^ 64 - 1
+-- the first time after the last, one far past it, and 2 ^ 64 - 1
 abbrev late : List ℕ
 late = 61 ∷ 100000000000 ∷ 18446744073709551615 ∷ []
 
@@ -112,7 +112,7 @@ none-views : map (viewOf none) any ≡ replicate 3 (seen Empty 0 Earlier 0 [])
 unfolding computing
 none-views = refl
 
-none-units : (map (unitsOf none) any ∷ []) ≡ replicate 3 (answers 0) ∷ []
+none-units : map (unitsOf none) any ≡ replicate 3 (answers 0)
 unfolding computing
 none-units = refl
 
@@ -155,18 +155,23 @@ difference-before = refl
 -- ---- 12 is a keep's
 
 -- a short output or workspace is refused by 13 whatever the time
-short : (tableOf worked 61 (replicate 31 3) ∷ []) ≡ noTable (replicate 31 3) 13 ∷ []
+short : tableOf worked 61 (replicate 31 3) ≡ noTable (replicate 31 3) 13
 unfolding computing
 short = refl
+
+short-net : (netOf worked 61 20 (replicate 95 3) (replicate 64 4) ∷ netOf worked 20 61 (replicate 96 3) (replicate 63 4) ∷ [])
+    ≡ noNet (replicate 95 3) (replicate 64 4) 13 ∷ noNet (replicate 96 3) (replicate 63 4) 13 ∷ []
+unfolding computing
+short-net = refl
 
 keeps : map (keepOf worked) late ≡ replicate 3 (after (refuses 12) worked)
 unfolding computing
 keeps = refl
 
--- of all calls for time 61 on a store that can take them, and of an insertion at 60 (6): which are refused by 12
+-- which calls for time 61 are refused by 12
 met : map (λ (c : Call). saidRefusedBy 12 (answerOf roomy c)) (Call.position 61 ∷ Call.table 61 (replicate 32 3) ∷ Call.table 61 [] ∷ Call.view 61
-    ∷ Call.netChange 61 61 [] [] ∷ Call.units 61 ∷ Call.difference 61 61 ∷ Call.insert 60 3 5 ∷ Call.drop 61 ∷ Call.keep 60 ∷ Call.keep 61 ∷ Call.audit ∷ [])
-    ≡ replicate 10 false ++ (true ∷ false ∷ [])
+    ∷ Call.netChange 61 61 [] [] ∷ Call.units 61 ∷ Call.difference 61 61 ∷ Call.insert 61 3 5 ∷ Call.delete 61 7 ∷ Call.update 61 9 8 ∷ Call.drop 61 ∷ Call.keep 60 ∷ Call.keep 61 ∷ Call.audit ∷ [])
+    ≡ replicate 12 false ++ (true ∷ false ∷ [])
 unfolding computing
 met = refl
 

@@ -9,7 +9,7 @@ use Rattle.codec.specs.Parts.{zeros}
 use Rattle.model.specs.declared.Entry.{Entry}
 use Rattle.model.specs.declared.Side.the-variants.{Earlier, Later}
 use Rattle.model.specs.declared.Place.the-variants.{Empty, Area, Current}
-use Rattle.model.specs.Answers.{answers, refuses, refusesAt}
+use Rattle.model.specs.Answers.{answers, refusesAt}
 use Rattle.model.specs.Records.{headerBytes}
 use Rattle.model.specs.Memory.{Memory, State, state, capacity}
 use Rattle.model.specs.Outset.{held, apart}

@@ -6,7 +6,7 @@ use mathlib.Core.List.{[], _∷_, map}
 use mathlib.Core.Bool.{false}
 use lib.ListN.{replicate}
 use lib.IntN.{ℤ, pos, negsuc}
-use Rattle.model.specs.Answers.{Outcome, answers, refuses}
+use Rattle.model.specs.Answers.{Outcome, answers}
 use Rattle.model.specs.Rows.{sameRows}
 use Rattle.model.specs.Memory.{State}
 use Rattle.model.specs.Starts.{freshOf}
