@@ -102,8 +102,8 @@ test-of-files st before (f ∷ fs) h =
 
 -- ---- question 1
 
-limits-of-sound : (st : State) → sound st ≡ true → InLimits st × (take 24 (st .memory .log) ≡ headerBytes (st .numbers))
-unfolding fits numbersInRange orderInRange pageSizeInRange rowLimitInRange recordsInRange logLong headerIs indexLong tableLong
+pub limits-of-sound : (st : State) → sound st ≡ true → InLimits st × (headerIs (st .numbers) (st .memory .log) ≡ true)
+unfolding fits numbersInRange orderInRange pageSizeInRange rowLimitInRange recordsInRange logLong indexLong tableLong
 limits-of-sound st h =
     let s = st .numbers in
     let m = st .memory in
@@ -116,13 +116,11 @@ limits-of-sound st h =
     let c1 = leb (s .records) 65536 in
     let numbers : Bool = (d1 && d2) && (n1 && n2) && (r1 && r2) && c1 in
     let log = leb (24 + 24 * s .records) (length (m .log)) in
-    let none : Bool = not (eqb (s .records) 0) || eqb (s .last) 0 in
-    let bytes = same (take 24 (m .log)) (headerBytes s) in
     let index = leb (indexNeed (s .order) (s .page) (s .records)) (length (m .index)) in
     let table = leb (8 * s .limit) (length (m .table)) in
     let live = leb (s .live) (s .limit) in
     let files = leb (s .files) (capacityOf (s .limit) m) in
-    let header : Bool = none && bytes in
+    let header = headerIs s (m .log) in
     let h6 = and-left (numbers && log && header && index && table && live) files h in
     let h5 = and-left (numbers && log && header && index && table) live h6 in
     let h4 = and-left (numbers && log && header && index) table h5 in
@@ -147,16 +145,18 @@ limits-of-sound st h =
         table-long = leb-true _ _ (and-right (numbers && log && header && index) table h5);
         files-few = leb-true _ _ (and-right (numbers && log && header && index && table && live) files h);
       },
-      same-true _ _ (and-right none bytes (and-right (numbers && log) header h3)),
+      and-right (numbers && log) header h3,
     )
 
 -- ---- the whole
 
 pub audited-facts : (st : State) → Audited st → AuditedFacts st
-unfolding auditOf logAudited tableAudited indexAudited restAudited
+unfolding auditOf logAudited tableAudited indexAudited restAudited headerIs
 audited-facts st h =
     let s = st .numbers in
     let m = st .memory in
+    let none : Bool = not (eqb (s .records) 0) || eqb (s .last) 0 in
+    let bytes = same (take 24 (m .log)) (headerBytes s) in
     let log1 = legal (s .limit) (logOf st) in
     let log2 = eqb (s .last) (lastTime (logOf st)) in
     let table1 = eqb (s .live) (length (rowsNow st)) in
@@ -178,7 +178,7 @@ audited-facts st h =
     let long : length entries ≡ cap - s .files = length-drop (s .files) (take cap (m .catalogue)) ∙ rw front in
     record {
       limits = q .0;
-      header-is = q .1;
+      header-is = same-true _ _ (and-right none bytes (q .1));
       log-legal = and-left log1 log2 logs;
       last-is = eqb-true _ _ (and-right log1 log2 logs);
       live-is = eqb-true _ _ (and-left table1 table2 tables);

@@ -3,7 +3,7 @@
 -- so what the log says of the one it says of the other. Assumes nothing.
 use Prim.Native.Nat.{ℕ, _≤_, _<_}
 use mathlib.Core.Path.{_≡_, refl, sym, ap, _∙_}
-use mathlib.Core.Bool.{Bool, true, false, not, _&&_, _||_}
+use mathlib.Core.Bool.{Bool, true, false, not, _||_}
 use native.Mathlib.Omega.{arith}
 use lib.ListN.{length, take}
 use lib.Dec.{leb, eqb}
@@ -14,7 +14,7 @@ use Rattle.model.specs.Answers.{firstNo}
 use Rattle.model.specs.Records.{headerBytes}
 use Rattle.model.specs.Timeslice.{table, upTo, timeslice}
 use Rattle.model.specs.Pages.{recordsUpTo}
-use Rattle.model.specs.Memory.{State, logOf, sound, capacityOf, headerIs, numbersInRange, logLong, indexLong, tableLong, fits}
+use Rattle.model.specs.Memory.{State, logOf, sound, headerIs}
 use Rattle.model.specs.Positions.{positionAt, PageAndCount}
 use Rattle.model.specs.Outset.{apart}
 use Rattle.model.specs.Between.{requestsBetween}
@@ -22,8 +22,9 @@ use Rattle.model.specs.Queries.{answeredTime, rowsAt, positionOf, tableO
 use Rattle.model.specs.Units.{unitsAt, unitsOf, differenceOf}
 use Rattle.model.specs.Facts.{AuditedFacts}
 use Rattle.model.specs.LateTimes.{AsBefore, AsTheLast, AsTimeZero, EveryTimeAnswered}
-use Rattle.model.proofs.Compare.{and-left, and-right}
+use Rattle.model.proofs.Compare.{and-left}
 use Rattle.model.proofs.UpToLaws.{up-to-all}
+use Rattle.model.proofs.AuditLaws.{limits-of-sound}
 use Rattle.model.proofs.TimeLaws.{time-last}
 use Rattle.model.proofs.PositionLaws.{page-tied-to-count}
 use Rattle.model.proofs.BetweenLaws.{counts-between}
@@ -89,24 +90,11 @@ module _ (st : State) where
 
   -- by question 1: no header has a last time and no record
   last-none : sound st ≡ true → st .numbers .records ≡ 0 → st .numbers .last ≡ 0
-  unfolding fits headerIs
+  unfolding headerIs
   last-none q e =
       let s = st .numbers in
-      let m = st .memory in
-      let numbers = numbersInRange s in
-      let log = logLong (s .records) (length (m .log)) in
       let none : Bool = not (eqb (s .records) 0) || eqb (s .last) 0 in
-      let bytes = same (take 24 (m .log)) (headerBytes s) in
-      let index = indexLong (s .order) (s .page) (s .records) (length (m .index)) in
-      let table = tableLong (s .limit) (length (m .table)) in
-      let live = leb (s .live) (s .limit) in
-      let files = leb (s .files) (capacityOf (s .limit) m) in
-      let header : Bool = none && bytes in
-      let h6 = and-left (numbers && log && header && index && table && live) files q in
-      let h5 = and-left (numbers && log && header && index && table) live h6 in
-      let h4 = and-left (numbers && log && header && index) table h5 in
-      let h3 = and-left (numbers && log && header) index h4 in
-      let h = and-left none bytes (and-right (numbers && log) header h3) in
+      let h = and-left none (same (take 24 (st .memory .log)) (headerBytes s)) (limits-of-sound st q .1) in
       eqb-true _ _ (rw (eq-eqb _ _ e) at h)
 
   -- a store that question 1 refuses answers 1 to both
