@@ -8,8 +8,8 @@ use lib.ListN.{length, take}
 use lib.Seq.{length-take-le}
 use Rattle.codec.specs.LittleEndian.{AreBytes}
 use Rattle.model.specs.Answers.{netChangeOutcome, refusal}
+use Rattle.model.specs.Queries.{answeredTime}
 use Rattle.model.specs.Promises.{storeOf}
-use Rattle.model.proofs.LateLaws.{answered-le}
 use Rattle.catalogue.specs.declared.Catalogue.{Catalogue}
 use Rattle.catalogue.proofs.EntryLaws.{loaded-by-value}
 use Rattle.tables.proofs.Answers.{ready-of}
@@ -71,6 +71,7 @@ part-work-out-both-end : tie.Need-part-work-out-both-end
 part-work-out-both-end c = search needs
 
 work-out-both-requires : tie.Need-work-out-both-requires
+unfolding answeredTime
 work-out-both-requires c κs =
     let second = c .before in
     let first = second .before in
@@ -78,8 +79,8 @@ work-out-both-requires c κs =
     let x = c1 .before .before .before .before .before .before .before .before .args in
     let fine = c1 .before .is-sound .ensures .1 (c1 .if1 .taken) in
     record {
-      first-ready = ready-of fine (omega (arith, first .answered-time .ensures, answered-le (x .s .last) (x .a))) refl;
-      second-ready = ready-of fine (omega (arith, second .answered-time2 .ensures, answered-le (x .s .last) (x .b))) refl;
+      first-ready = ready-of fine (omega (arith, first .answered-time .ensures)) refl;
+      second-ready = ready-of fine (omega (arith, second .answered-time2 .ensures)) refl;
       work-is = length-take-le (16 * x .s .limit - 0) (x .work .now) (omega arith) ∙ sub-zero (16 * x .s .limit);
     }
 
