@@ -44,6 +44,10 @@
  *              keep them again.
  * Count files  No call needs one. Entries and areas may have length 0: then keep is refused by 15, and all
  *              else works.
+ * Marks        A count file is kept with a mark: 0 permanent, 5 goes on Friday, 7 goes on Sunday. yk_drop_marked
+ *              deletes every file with the one mark, 5 or 7, and leaves the others; yk_drop deletes one by its
+ *              time, whatever its mark. The store knows no weekday: nothing goes until the maker calls for it. A
+ *              mark stays as it is while its file is kept; for another one drop the file and keep it again.
  * Memory       yk_lengths_for answers what to lend for so many records and count files. With as much, no call
  *              is refused for want of memory until there are more of them. It is the least: with less of a
  *              region, the call that needs it is refused, be it the opening of so many records, the last
@@ -90,7 +94,8 @@ enum yk_question {
     YK_NOT_TO_KEEP = 14,     /* time 0, or kept already */
     YK_CATALOGUE_FULL = 15,  /* no space for a count file */
     YK_NOT_KEPT = 16,        /* no count file of that time */
-    YK_WRONG_RECORD = 17     /* the log is not legal; `record` is the first wrong one */
+    YK_WRONG_RECORD = 17,    /* the log is not legal; `record` is the first wrong one */
+    YK_WRONG_MARK = 18       /* the mark is not 0, 5 or 7; to drop by mark, not 5 or 7 */
 };
 
 /* Where the rows are that a table is worked out from. */
@@ -98,6 +103,13 @@ enum yk_place {
     YK_EMPTY = 0,  /* time 0: no rows, the empty part at the front of the current table */
     YK_AREA = 1,   /* the area of a count file */
     YK_CURRENT = 2 /* the current table */
+};
+
+/* What is to become of a count file: the numbers that yk_keep and yk_drop_marked take, and entries have. */
+enum yk_mark {
+    YK_PERMANENT = 0, /* it goes only when it is dropped by its time */
+    YK_FRIDAY = 5,    /* it goes on Friday */
+    YK_SUNDAY = 7     /* it goes on Sunday */
 };
 
 /* The store's numbers. */
@@ -111,10 +123,11 @@ typedef struct yk_numbers {
     uint32_t files;   /* count files held */
 } yk_numbers;
 
-/* One entry of the catalogue. */
+/* One entry of the catalogue, 16 bytes. */
 typedef struct yk_entry {
     uint64_t time; /* time of the count file */
     uint32_t rows; /* rows of its table */
+    uint32_t mark; /* an enum yk_mark */
 } yk_entry;
 
 /* What a call that may change the store answers. */
@@ -125,6 +138,13 @@ typedef struct yk_change {
                            log, or the number of records where only the header's last time is wrong. Either
                            way so many records from the start are legal. Else 0 */
 } yk_change;
+
+/* What yk_drop_marked answers. */
+typedef struct yk_drop_marked_answer {
+    yk_numbers numbers; /* for the next call */
+    uint8_t question;   /* an enum yk_question */
+    uint32_t gone;      /* count files that went, 0 where refused */
+} yk_drop_marked_answer;
 
 typedef struct yk_position_answer {
     uint8_t question;  /* an enum yk_question; all else is 0 where refused */
@@ -255,17 +275,24 @@ yk_units_between_answer yk_units_between(yk_numbers numbers, const uint8_t *log,
     const yk_entry *entries, size_t entries_length, const uint8_t *areas, size_t areas_length, uint64_t a,
     uint64_t b);
 
-/* Keeps the table of a time as a count file: writes its entry and area, and moves the files of later times up
- * by one. Refuses by 1, 12 (a time after the last), 14, 15. */
+/* Keeps the table of a time as a count file with a mark: writes its entry and area, and moves the files of later
+ * times up by one. Refuses by 1, 12 (a time after the last), 18 (not 0, 5 or 7), 14, 15, in this order. */
 yk_change yk_keep(yk_numbers numbers, const uint8_t *log, size_t log_length, const uint64_t *index,
     size_t index_length, const uint8_t *table, size_t table_length, yk_entry *entries, size_t entries_length,
-    uint8_t *areas, size_t areas_length, uint64_t time);
+    uint8_t *areas, size_t areas_length, uint64_t time, uint32_t mark);
 
-/* Gives up the count file of a time: moves the files of later times down by one, and zeroes the entry and the
- * area that the last one leaves. Refuses by 1, 16. */
+/* Gives up the count file of a time, whatever its mark: moves the files of later times down by one, and zeroes the
+ * entry and the area that the last one leaves. Refuses by 1, 16. */
 yk_change yk_drop(yk_numbers numbers, const uint8_t *log, size_t log_length, const uint64_t *index,
     size_t index_length, const uint8_t *table, size_t table_length, yk_entry *entries, size_t entries_length,
     uint8_t *areas, size_t areas_length, uint64_t time);
+
+/* Gives up every count file with this mark: moves those that stay down, in their order, and zeroes the entries and
+ * the areas set free. Answers how many went; none is no refusal, and changes nothing. Refuses by 1, 18 (not 5 or
+ * 7: permanent files go one by one, by yk_drop). */
+yk_drop_marked_answer yk_drop_marked(yk_numbers numbers, const uint8_t *log, size_t log_length,
+    const uint64_t *index, size_t index_length, const uint8_t *table, size_t table_length, yk_entry *entries,
+    size_t entries_length, uint8_t *areas, size_t areas_length, uint32_t mark);
 
 /* 1 if the numbers and the lent memory are such as accepted calls from a fresh or opened store leave, else 0.
  * Writes nothing and refuses nothing, whatever the memory holds. The other calls but yk_fresh and yk_open
@@ -285,9 +312,9 @@ static inline yk_part yk_view_part(yk_view_answer view, const uint8_t *areas, co
 
 /* The version of this header, and that of the archive as the one number that the header has as YK_VERSION_NUMBER. */
 #define YK_VERSION_MAJOR 0
-#define YK_VERSION_MINOR 4
+#define YK_VERSION_MINOR 5
 #define YK_VERSION_PATCH 0
-#define YK_VERSION "0.4.0"
+#define YK_VERSION "0.5.0"
 #define YK_VERSION_NUMBER (65536u * YK_VERSION_MAJOR + 256u * YK_VERSION_MINOR + YK_VERSION_PATCH)
 
 uint32_t yk_version(void);
@@ -313,6 +340,7 @@ static inline const char *yk_question_text(unsigned question) {
     case YK_CATALOGUE_FULL: return "there is no space for another count file";
     case YK_NOT_KEPT: return "no count file of that time is kept";
     case YK_WRONG_RECORD: return "the log is not legal";
+    case YK_WRONG_MARK: return "the mark is not 0, 5 or 7; to drop by mark, not 5 or 7";
     default: return "no such question";
     }
 }
@@ -450,16 +478,25 @@ static inline enum yk_question yk_store_update(yk_store *store, uint64_t time, u
     return yk_store_take(store, yk_update(s.numbers, YK_LENT(s), time, article, count));
 }
 
-/* yk_keep: a time from 1 to numbers.last. */
-static inline enum yk_question yk_store_keep(yk_store *store, uint64_t time) {
+/* yk_keep: a time from 1 to numbers.last, and an enum yk_mark. */
+static inline enum yk_question yk_store_keep(yk_store *store, uint64_t time, uint32_t mark) {
     yk_store s = yk_store_lent(store);
-    return yk_store_take(store, yk_keep(s.numbers, YK_LENT(s), time));
+    return yk_store_take(store, yk_keep(s.numbers, YK_LENT(s), time, mark));
 }
 
 /* yk_drop */
 static inline enum yk_question yk_store_drop(yk_store *store, uint64_t time) {
     yk_store s = yk_store_lent(store);
     return yk_store_take(store, yk_drop(s.numbers, YK_LENT(s), time));
+}
+
+/* yk_drop_marked: YK_FRIDAY or YK_SUNDAY. Its numbers are the store's from then on. */
+static inline yk_drop_marked_answer yk_store_drop_marked(yk_store *store, uint32_t mark) {
+    yk_store s = yk_store_lent(store);
+    yk_drop_marked_answer answer = yk_drop_marked(s.numbers, YK_LENT(s), mark);
+    store->numbers = answer.numbers;
+    store->record = 0;
+    return answer;
 }
 
 /* yk_position */

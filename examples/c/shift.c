@@ -1,6 +1,6 @@
 /* A week with a handheld counter: shifts of counting, a past day's table and its units, Friday's deletions, the
- * table by the clock, what a wholesaler gets, and the log written to a file and opened again. The argument is the
- * file to write.
+ * table by the clock, what a wholesaler gets, the count files that go on Friday, and the log written to a file and
+ * opened again. The argument is the file to write.
  *
  *     gcc -std=c99 -Iinclude examples/c/shift.c target/staticlib/libembed.a -o shift && ./shift week.log */
 #include <stdio.h>
@@ -45,9 +45,10 @@ static void count_the_week(yk_store *store) {
 }
 
 /* What is no longer sold leaves on Friday. Thursday's last table is asked for often until the wholesaler has it,
- * so it is kept before. */
+ * so it is kept before, to go on Friday too; Tuesday's is asked for all year, and stays. */
 static void friday(yk_store *store) {
-    must(yk_store_keep(store, at(THURSDAY, 16, 45)));
+    must(yk_store_keep(store, at(TUESDAY, 9, 0), YK_PERMANENT));
+    must(yk_store_keep(store, at(THURSDAY, 16, 45), YK_FRIDAY));
     must(yk_store_delete(store, at(FRIDAY, 8, 0), 4712));
     must(yk_store_delete(store, at(FRIDAY, 8, 1), 4650));
     must(yk_store_insert(store, at(FRIDAY, 8, 30), 4900, 10));
@@ -116,7 +117,9 @@ int main(int many, char **arguments) {
     uint64_t now = at(FRIDAY, 8, 45);
     print_table(&store, "now", now, out, need);
     print_net_change(&store, "Thursday to Friday", at(THURSDAY, 16, 45), now, out, work, need);
-    must(yk_store_drop(&store, at(THURSDAY, 16, 45)));
+    yk_drop_marked_answer went = yk_store_drop_marked(&store, YK_FRIDAY);
+    must((enum yk_question)went.question);
+    printf("count files: %u went on Friday, %u left\n", (unsigned)went.gone, (unsigned)store.numbers.files);
 
     enum yk_question no = yk_store_insert(&store, at(FRIDAY, 9, 0), 4711, 8);
     printf("inserting 4711 is refused by %d: %s\n", no, yk_question_text(no));

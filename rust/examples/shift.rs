@@ -1,12 +1,12 @@
 //! A week with a handheld counter: shifts of counting, a past day's table and its units, Friday's deletions, the
-//! table by the clock, what a wholesaler gets, and the log written to a file and opened again. The argument is the
-//! file to write.
+//! table by the clock, what a wholesaler gets, the count files that go on Friday, and the log written to a file and
+//! opened again. The argument is the file to write.
 //!
 //!     YK_LIB_DIR=$PWD/target/staticlib cargo run --manifest-path rust/Cargo.toml --example shift week.log
 
 use std::error::Error;
 use std::{env, fs};
-use yokefennel::{Entry, Lengths, Lent, Refusal, Settings, Step, Store};
+use yokefennel::{Entry, Lengths, Lent, Mark, Refusal, Settings, Step, Store};
 
 // The maker's choice: settings, and how much the store is to hold.
 const SETTINGS: Settings = Settings { order: 8, page: 16, limit: 100 };
@@ -65,9 +65,10 @@ fn count_the_week(store: &mut Store) -> Result<(), Refusal> {
 }
 
 /// What is no longer sold leaves on Friday. Thursday's last table is asked for often until the wholesaler has
-/// it, so it is kept before.
+/// it, so it is kept before, to go on Friday too; Tuesday's is asked for all year, and stays.
 fn friday(store: &mut Store) -> Result<(), Refusal> {
-    store.keep(at(THURSDAY, 16, 45))?;
+    store.keep(at(TUESDAY, 9, 0), Mark::Permanent)?;
+    store.keep(at(THURSDAY, 16, 45), Mark::Friday)?;
     store.delete(at(FRIDAY, 8, 0), 4712)?;
     store.delete(at(FRIDAY, 8, 1), 4650)?;
     store.insert(at(FRIDAY, 8, 30), 4900, 10)
@@ -115,7 +116,8 @@ fn main() -> Result<(), Box<dyn Error>> {
     let (thursday, now) = (at(THURSDAY, 16, 45), at(FRIDAY, 8, 45));
     print_table(&store, "now", now, &mut out)?;
     print_net_change(&store, "Thursday to Friday", thursday, now, &mut out, &mut work)?;
-    store.drop_file(thursday)?;
+    let gone = store.drop_marked(Mark::Friday)?;
+    println!("count files: {gone} went on Friday, {} left", store.files().len());
 
     if let Err(refusal) = store.insert(at(FRIDAY, 9, 0), 4711, 8) {
         println!("inserting 4711 is {refusal}");

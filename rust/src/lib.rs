@@ -68,6 +68,9 @@
 //!   could make the file wrong. Where it matters whether a time is late, compare it with [`Numbers::last`].
 //! - **Memory**: [`Settings::lengths`] says how much to lend. No call needs a count file: entries and areas may
 //!   be empty.
+//! - **Marks**: a count file is kept with a [`Mark`]. [`Store::drop_marked`] deletes every file that goes on Friday, or
+//!   every one that goes on Sunday, when you call it: the store knows no weekday. [`Store::drop_file`] deletes one by
+//!   its time, whatever its mark.
 //! - **Saving**: [`Store::log`] is all that need be saved; [`Store::open`] makes the rest anew.
 //! - **Threads**: any number of stores on any number of threads.
 //! - **Damage**: whatever the lent memory holds, every call ends and stays within it. [`Store::audit`] says
@@ -80,12 +83,14 @@
 
 mod bytes;
 mod lengths;
+mod mark;
 pub mod raw;
 mod refusal;
 mod store;
 
 pub use bytes::{Row, Rows, Step, Steps};
 pub use lengths::Lengths;
+pub use mark::{Mark, UnknownMark};
 pub use refusal::Refusal;
 pub use store::{Lent, NetChange, Place, Position, Settings, Side, Store, Table, View};
 
@@ -109,7 +114,7 @@ pub struct Numbers {
     pub files: u32,
 }
 
-/// One entry of the catalogue.
+/// One entry of the catalogue, 16 bytes.
 #[repr(C)]
 #[derive(Clone, Copy, Debug, Default, PartialEq, Eq, Hash)]
 pub struct Entry {
@@ -117,10 +122,47 @@ pub struct Entry {
     pub time: u64,
     /// rows of its table
     pub rows: u32,
+    /// the number of its [`Mark`]; lent memory that no call has written may hold any number
+    pub mark: u32,
+}
+
+impl Entry {
+    /// The file's mark. `None` where its number is that of no mark, which [`Store::audit`] does not pass.
+    ///
+    /// ```
+    /// use yokefennel::{Entry, Mark};
+    ///
+    /// assert_eq!(Entry { time: 10, rows: 1, mark: 5 }.marked(), Some(Mark::Friday));
+    /// assert_eq!(Entry { time: 10, rows: 1, mark: 6 }.marked(), None);
+    /// ```
+    pub fn marked(self) -> Option<Mark> {
+        Mark::try_from(self.mark).ok()
+    }
 }
 
 /// The version of the archive that is linked in: 65,536 × major + 256 × minor + patch.
 pub fn version() -> u32 {
     // SAFETY: it is given nothing and touches no memory.
     unsafe { raw::yk_version() }
+}
+
+#[cfg(test)]
+mod tests {
+    use super::{raw, Entry, Mark, Numbers};
+    use core::mem::{align_of, offset_of, size_of};
+
+    /// As C lays them out on x86-64.
+    #[test]
+    fn layout() {
+        assert_eq!((size_of::<Entry>(), align_of::<Entry>()), (16, 8));
+        assert_eq!((offset_of!(Entry, time), offset_of!(Entry, rows), offset_of!(Entry, mark)), (0, 8, 12));
+        assert_eq!((size_of::<Numbers>(), size_of::<raw::Change>()), (32, 40));
+        type Gone = raw::DropMarkedAnswer;
+        assert_eq!((size_of::<Gone>(), offset_of!(Gone, question), offset_of!(Gone, gone)), (40, 32, 36));
+    }
+
+    #[test]
+    fn a_fresh_entry_is_permanent() {
+        assert_eq!(Entry::default().marked(), Some(Mark::Permanent));
+    }
 }

@@ -17,6 +17,18 @@ pub struct Change {
     pub record: u32,
 }
 
+/// What [`yk_drop_marked`] answers.
+#[repr(C)]
+#[derive(Clone, Copy, Debug)]
+pub struct DropMarkedAnswer {
+    /// the numbers for the next call
+    pub numbers: Numbers,
+    /// 01's number of the question answered no, or 0
+    pub question: u8,
+    /// count files that went, 0 where refused
+    pub gone: u32,
+}
+
 /// What [`yk_position`] answers.
 #[repr(C)]
 #[derive(Clone, Copy, Debug)]
@@ -246,7 +258,7 @@ extern "C" {
         a: u64, b: u64,
     ) -> UnitsBetweenAnswer;
 
-    /// Keeps the table of a time as a count file.
+    /// Keeps the table of a time as a count file with a mark: 0, 5 or 7.
     pub fn yk_keep(
         numbers: Numbers,
         log: *const u8, log_length: usize,
@@ -254,7 +266,7 @@ extern "C" {
         table: *const u8, table_length: usize,
         entries: *mut Entry, entries_length: usize,
         areas: *mut u8, areas_length: usize,
-        time: u64,
+        time: u64, mark: u32,
     ) -> Change;
 
     /// Gives up the count file of a time.
@@ -267,6 +279,17 @@ extern "C" {
         areas: *mut u8, areas_length: usize,
         time: u64,
     ) -> Change;
+
+    /// Gives up every count file with this mark: 5 or 7.
+    pub fn yk_drop_marked(
+        numbers: Numbers,
+        log: *const u8, log_length: usize,
+        index: *const u64, index_length: usize,
+        table: *const u8, table_length: usize,
+        entries: *mut Entry, entries_length: usize,
+        areas: *mut u8, areas_length: usize,
+        mark: u32,
+    ) -> DropMarkedAnswer;
 
     /// 1 if numbers and memory are such as accepted calls leave, else 0.
     pub fn yk_audit(

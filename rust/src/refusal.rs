@@ -45,10 +45,12 @@ pub enum Refusal {
         /// where only the header's last time is wrong. Either way so many records from the start are legal
         record: u32,
     },
+    /// 18: the mark is not 0, 5 or 7; to drop by mark, not 5 or 7
+    WrongMark,
 }
 
 impl Refusal {
-    /// The question's number in 01, 1 to 17.
+    /// The question's number in 01 or 02, 1 to 18.
     pub fn question(self) -> u8 {
         match self {
             Refusal::Header => 1,
@@ -68,10 +70,11 @@ impl Refusal {
             Refusal::CatalogueFull => 15,
             Refusal::NotKept => 16,
             Refusal::WrongRecord { .. } => 17,
+            Refusal::WrongMark => 18,
         }
     }
 
-    /// The refusal of an answer, `None` where it was accepted. The library answers 0 to 17.
+    /// The refusal of an answer, `None` where it was accepted. The library answers 0 to 18.
     pub(crate) fn of(question: u8, record: u32) -> Option<Refusal> {
         Some(match question {
             0 => return None,
@@ -91,6 +94,7 @@ impl Refusal {
             15 => Refusal::CatalogueFull,
             16 => Refusal::NotKept,
             17 => Refusal::WrongRecord { record },
+            18 => Refusal::WrongMark,
             _ => Refusal::Header,
         })
     }
@@ -116,6 +120,7 @@ impl Refusal {
             Refusal::CatalogueFull => "there is no space for another count file",
             Refusal::NotKept => "no count file of that time is kept",
             Refusal::WrongRecord { .. } => "the log is not legal",
+            Refusal::WrongMark => "the mark is not 0, 5 or 7; to drop by mark, not 5 or 7",
         }
     }
 }
@@ -141,7 +146,7 @@ mod tests {
     #[test]
     fn each_number_has_its_refusal() {
         assert_eq!(Refusal::of(0, 0), None);
-        for question in 1..=17 {
+        for question in 1..=18 {
             assert_eq!(Refusal::of(question, 3).unwrap().question(), question);
         }
     }
@@ -153,5 +158,7 @@ mod tests {
         assert_eq!(late.to_string(), "refused by 12: the time to keep is after the last request");
         let wrong = Refusal::WrongRecord { record: 4 };
         assert_eq!(wrong.to_string(), "refused by 17: the log is not legal beyond its first 4 records");
+        let mark = Refusal::WrongMark;
+        assert_eq!(mark.to_string(), "refused by 18: the mark is not 0, 5 or 7; to drop by mark, not 5 or 7");
     }
 }

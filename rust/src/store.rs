@@ -1,6 +1,6 @@
 //! The handle: numbers and lent memory together.
 
-use crate::{bytes, raw, Entry, Numbers, Refusal, Rows, Steps};
+use crate::{bytes, raw, Entry, Mark, Numbers, Refusal, Rows, Steps};
 
 /// What a maker chooses.
 #[derive(Clone, Copy, Debug, PartialEq, Eq, Hash)]
@@ -279,13 +279,14 @@ impl<'a> Store<'a> {
         self.take(answer)
     }
 
-    /// Keeps the table of a time as a count file, so that tables near it are found sooner. A time after the last is
-    /// refused by 12, because a later request could make the file wrong: keep the last one itself, if there is one.
+    /// Keeps the table of a time as a count file, so that tables near it are found sooner, with a mark that says what
+    /// is to become of it. A time after the last is refused by 12, because a later request could make the file wrong:
+    /// keep the last one itself, if there is one.
     ///
-    /// Refuses by 1, 12, 14, 15.
+    /// Refuses by 1, 12, 14, 15. (Every [`Mark`] is one that a keep takes, so 18 is not met here.)
     ///
     /// ```
-    /// # use yokefennel::{Entry, Lent, Refusal, Settings, Store};
+    /// # use yokefennel::{Entry, Lent, Mark, Refusal, Settings, Store};
     /// # let (log, index, table) = (&mut [0; 96], &mut [0; 7], &mut [0; 32]);
     /// # let (entries, areas) = (&mut [Entry::default()], &mut [0; 32]);
     /// # let mut store = Store::fresh(
@@ -293,25 +294,25 @@ impl<'a> Store<'a> {
     /// #     Lent { log, index, table, entries, areas },
     /// # )?;
     /// store.insert(10, 7, 50)?;
-    /// assert_eq!(store.keep(11), Err(Refusal::TimeAfterLast));
-    /// store.keep(store.numbers().last)?;
-    /// assert_eq!(store.files(), [Entry { time: 10, rows: 1 }]);
+    /// assert_eq!(store.keep(11, Mark::Friday), Err(Refusal::TimeAfterLast));
+    /// store.keep(store.numbers().last, Mark::Friday)?;
+    /// assert_eq!(store.files(), [Entry { time: 10, rows: 1, mark: 5 }]);
     /// # Ok::<(), Refusal>(())
     /// ```
-    pub fn keep(&mut self, time: u64) -> Result<(), Refusal> {
+    pub fn keep(&mut self, time: u64, mark: Mark) -> Result<(), Refusal> {
         let Lent { log, index, table, entries, areas } = &mut self.lent;
         let answer = unsafe {
             raw::yk_keep(
                 self.numbers,
                 log.as_ptr(), log.len(), index.as_ptr(), index.len(), table.as_ptr(), table.len(),
                 entries.as_mut_ptr(), entries.len(), areas.as_mut_ptr(), areas.len(),
-                time,
+                time, mark.number(),
             )
         };
         self.take(answer)
     }
 
-    /// Gives up the count file of a time. (The name `drop` is the language's own.)
+    /// Gives up the count file of a time, whatever its mark. (The name `drop` is the language's own.)
     ///
     /// Refuses by 1, 16.
     pub fn drop_file(&mut self, time: u64) -> Result<(), Refusal> {
@@ -325,6 +326,45 @@ impl<'a> Store<'a> {
             )
         };
         self.take(answer)
+    }
+
+    /// Gives up every count file with this mark, [`Mark::Friday`] or [`Mark::Sunday`], and answers how many went; none
+    /// is no refusal. The files that stay close up in their order. Permanent ones go one by one, by
+    /// [`drop_file`](Store::drop_file).
+    ///
+    /// Refuses by 1, 18.
+    ///
+    /// ```
+    /// # use yokefennel::{Entry, Lent, Mark, Refusal, Settings, Store};
+    /// # let (log, index, table) = (&mut [0; 96], &mut [0; 14], &mut [0; 32]);
+    /// # let (entries, areas) = (&mut [Entry::default(); 2], &mut [0; 64]);
+    /// # let mut store = Store::fresh(
+    /// #     Settings { order: 8, page: 2, limit: 4 },
+    /// #     Lent { log, index, table, entries, areas },
+    /// # )?;
+    /// store.insert(10, 7, 50)?;
+    /// store.insert(20, 3, 12)?;
+    /// store.keep(10, Mark::Friday)?;
+    /// store.keep(20, Mark::Sunday)?;
+    /// assert_eq!(store.drop_marked(Mark::Friday), Ok(1));
+    /// assert_eq!(store.files(), [Entry { time: 20, rows: 2, mark: 7 }]);
+    /// assert_eq!(store.drop_marked(Mark::Friday), Ok(0));
+    /// assert_eq!(store.drop_marked(Mark::Permanent), Err(Refusal::WrongMark));
+    /// # Ok::<(), Refusal>(())
+    /// ```
+    pub fn drop_marked(&mut self, mark: Mark) -> Result<u32, Refusal> {
+        let Lent { log, index, table, entries, areas } = &mut self.lent;
+        let answer = unsafe {
+            raw::yk_drop_marked(
+                self.numbers,
+                log.as_ptr(), log.len(), index.as_ptr(), index.len(), table.as_ptr(), table.len(),
+                entries.as_mut_ptr(), entries.len(), areas.as_mut_ptr(), areas.len(),
+                mark.number(),
+            )
+        };
+        self.numbers = answer.numbers;
+        accepted(answer.question)?;
+        Ok(answer.gone)
     }
 
     /// The position of a time: its page and its requests. A time after the last is answered as the last one.

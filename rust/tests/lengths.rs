@@ -1,6 +1,6 @@
 //! The lengths to lend: the index's beside a rule of its own, and what happens with one less.
 
-use yokefennel::{Entry, Lengths, Lent, Refusal, Settings, Store};
+use yokefennel::{Entry, Lengths, Lent, Mark, Refusal, Settings, Store};
 
 /// Whether leaf m, 1 or more, brings an inner node with it.
 fn brings_a_node(order: usize, leaf: usize) -> bool {
@@ -85,6 +85,6 @@ fn fill(settings: Settings, records: u32, lengths: Lengths) -> Result<(), Refusa
     };
     let mut store = Store::fresh(settings, lent)?;
     (1..=records).try_for_each(|k| store.insert(k.into(), k, k))?;
-    store.keep(records.into())?;
+    store.keep(records.into(), Mark::Permanent)?;
     store.net_change(0, records.into(), &mut vec![0; lengths.out], &mut vec![0; lengths.work]).map(|_| ())
 }

@@ -1,6 +1,6 @@
 //! 01's log by hand, through the handle.
 
-use yokefennel::{Entry, Lent, Numbers, Place, Position, Refusal, Row, Settings, Side, Step, Store};
+use yokefennel::{Entry, Lent, Mark, Numbers, Place, Position, Refusal, Row, Settings, Side, Step, Store};
 
 const SETTINGS: Settings = Settings { order: 3, page: 2, limit: 4 };
 
@@ -23,7 +23,7 @@ impl Memory {
             log: vec![0xA5; 24 + 24 * records],
             index: vec![0xA5; 2 * records.div_ceil(2) + 3],
             table: vec![0xA5; 32],
-            entries: vec![Entry { time: 9, rows: 9 }; files],
+            entries: vec![Entry { time: 9, rows: 9, mark: 9 }; files],
             areas: vec![0xA5; 32 * files],
         }
     }
@@ -139,7 +139,7 @@ fn units_on_hand() {
     let mut store = build(&mut memory);
     // worked out from time 0, from files before and after the time, from the current table
     for files in [&[][..], &[20], &[40], &[10, 40], &[30, 60]] {
-        files.iter().for_each(|&time| store.keep(time).unwrap());
+        files.iter().for_each(|&time| store.keep(time, Mark::Permanent).unwrap());
         compare_units(&store);
         files.iter().for_each(|&time| store.drop_file(time).unwrap());
     }
@@ -170,7 +170,7 @@ fn units_past_32_bits() {
 fn units_write_nothing() {
     let mut memory = Memory::of(9, 2);
     let mut store = build(&mut memory);
-    store.keep(20).unwrap();
+    store.keep(20, Mark::Permanent).unwrap();
     let (numbers, _) = store.give_back();
     let before = memory.clone();
     let store = Store::resume(numbers, memory.lend());
@@ -187,8 +187,8 @@ fn units_write_nothing() {
 fn count_files_and_views() {
     let mut memory = Memory::of(9, 2);
     let mut store = build(&mut memory);
-    store.keep(20).unwrap();
-    assert_eq!(store.files(), [Entry { time: 20, rows: 2 }]);
+    store.keep(20, Mark::Permanent).unwrap();
+    assert_eq!(store.files(), [Entry { time: 20, rows: 2, mark: 0 }]);
     // requests from 20 and to the last time: 2 and 4, a tie of 3, 4 and 2
     assert_eq!(outset(&store, 30), (Place::File(0), Side::Earlier, 2));
     assert_eq!(store.view(30).unwrap().rows().collect::<Vec<_>>(), [row(3, 12), row(7, 50)]);
@@ -197,15 +197,15 @@ fn count_files_and_views() {
     assert_eq!(outset(&store, 50), (Place::Current, Side::Later, 2));
     assert_eq!(store.view(50).unwrap().rows().collect::<Vec<_>>(), [row(7, 44), row(9, 6)]);
     assert_eq!(store.view(0).unwrap().rows().len(), 0);
-    assert_eq!(store.keep(20), Err(Refusal::NotToKeep));
-    store.keep(40).unwrap();
-    assert_eq!(store.keep(30), Err(Refusal::CatalogueFull));
+    assert_eq!(store.keep(20, Mark::Permanent), Err(Refusal::NotToKeep));
+    store.keep(40, Mark::Permanent).unwrap();
+    assert_eq!(store.keep(30, Mark::Permanent), Err(Refusal::CatalogueFull));
     store.drop_file(20).unwrap();
     assert_eq!(store.drop_file(20), Err(Refusal::NotKept));
     // with only 40 kept 4 and 1, with 10 as well 3 and 1
     assert_eq!(outset(&store, 30), (Place::File(0), Side::Later, 1));
     assert_eq!(table(&store, 30), (vec![row(3, 12), row(7, 44)], Side::Later, 1));
-    store.keep(10).unwrap();
+    store.keep(10, Mark::Permanent).unwrap();
     assert_eq!(outset(&store, 30), (Place::File(1), Side::Later, 1));
     assert_eq!(store.view(30).unwrap().rows().collect::<Vec<_>>(), [row(7, 44)]);
     assert_eq!(table(&store, 30), (vec![row(3, 12), row(7, 44)], Side::Later, 1));
@@ -271,7 +271,7 @@ fn a_file_of_the_last_time() {
     let mut store = build(&mut memory);
     let last = vec![row(7, 44), row(9, 6)];
     for (kept, file) in [(60, 0), (20, 1)] {
-        store.keep(kept).unwrap();
+        store.keep(kept, Mark::Permanent).unwrap();
         for time in [60].into_iter().chain(LATE) {
             assert_eq!(outset(&store, time), (Place::File(file), Side::Earlier, 0));
             assert_eq!(store.view(time).unwrap().rows().collect::<Vec<_>>(), last);
@@ -311,10 +311,13 @@ fn the_largest_time() {
     let mut memory = Memory::of(2, 1);
     let mut store = Store::fresh(SETTINGS, memory.lend()).unwrap();
     store.insert(u64::MAX - 1, 7, 50).unwrap();
-    assert_eq!((store.units(u64::MAX), store.keep(u64::MAX)), (Ok(50), Err(Refusal::TimeAfterLast)));
+    assert_eq!(
+        (store.units(u64::MAX), store.keep(u64::MAX, Mark::Permanent)),
+        (Ok(50), Err(Refusal::TimeAfterLast))
+    );
     store.insert(u64::MAX, 3, 12).unwrap();
     assert_eq!((store.units(u64::MAX - 1), store.units(u64::MAX)), (Ok(50), Ok(62)));
-    assert_eq!(store.keep(u64::MAX), Ok(()));
+    assert_eq!(store.keep(u64::MAX, Mark::Permanent), Ok(()));
     assert_eq!(outset(&store, u64::MAX), (Place::File(0), Side::Earlier, 0));
 }
 
@@ -333,9 +336,9 @@ fn times_of_an_empty_store() {
             assert_eq!(store.units_between(time, other), Ok(0));
         }
     }
-    assert_eq!(store.keep(0), Err(Refusal::NotToKeep));
-    assert_eq!(store.keep(1), Err(Refusal::TimeAfterLast));
-    assert_eq!(store.keep(u64::MAX), Err(Refusal::TimeAfterLast));
+    assert_eq!(store.keep(0, Mark::Permanent), Err(Refusal::NotToKeep));
+    assert_eq!(store.keep(1, Mark::Permanent), Err(Refusal::TimeAfterLast));
+    assert_eq!(store.keep(u64::MAX, Mark::Permanent), Err(Refusal::TimeAfterLast));
     assert!(store.audit() && store.files().is_empty());
 }
 
@@ -349,7 +352,7 @@ fn refusals_change_nothing() {
     assert_eq!(store.delete(61, 3), Err(Refusal::ArticleAbsent));
     assert_eq!(store.update(61, 9, 7), Err(Refusal::LogFull));
     // only a keep is refused a time after the last
-    assert_eq!(LATE.map(|time| store.keep(time)), [Err(Refusal::TimeAfterLast); 3]);
+    assert_eq!(LATE.map(|time| store.keep(time, Mark::Permanent)), [Err(Refusal::TimeAfterLast); 3]);
     assert_eq!(store.table(20, &mut [0; 31]).unwrap_err(), Refusal::OutputShort);
     assert_eq!(store.table(61, &mut [0; 31]).unwrap_err(), Refusal::OutputShort);
     assert_eq!(store.net_change(20, 45, &mut [0; 96], &mut []).unwrap_err(), Refusal::OutputShort);
@@ -455,7 +458,7 @@ fn no_count_files_and_nothing_lent() {
     let mut memory = Memory::of(9, 0);
     let mut store = build(&mut memory);
     assert!(store.audit() && store.files().is_empty());
-    assert_eq!(store.keep(20), Err(Refusal::CatalogueFull));
+    assert_eq!(store.keep(20, Mark::Permanent), Err(Refusal::CatalogueFull));
     assert_eq!(table(&store, 20).0, [row(3, 12), row(7, 50)]);
     compare_units(&store);
     let nothing = || Lent { log: &mut [], index: &mut [], table: &mut [], entries: &mut [], areas: &mut [] };
@@ -471,17 +474,19 @@ fn no_count_files_and_nothing_lent() {
 fn damaged_memory() {
     let mut memory = Memory::of(9, 2);
     let mut store = build(&mut memory);
-    store.keep(20).unwrap();
+    store.keep(20, Mark::Permanent).unwrap();
     let (numbers, _) = store.give_back();
     let (mut out, mut work) = ([0; 96], [0; 64]);
-    for (region, length) in [(0, 24 + 24 * 8), (1, 6), (2, 32), (3, 1), (4, 32)] {
+    for (region, length) in [(0, 24 + 24 * 8), (1, 6), (2, 32), (3, 1), (4, 32), (5, 2)] {
         for place in 0..length {
             let damage = |memory: &mut Memory| match region {
                 0 => memory.log[place] ^= 0x81,
                 1 => memory.index[place] ^= 0x81,
                 2 => memory.table[place] ^= 0x81,
                 3 => memory.entries[place].rows ^= 0x81,
-                _ => memory.areas[place] ^= 0x81,
+                4 => memory.areas[place] ^= 0x81,
+                // of the one file, then of the entry behind it
+                _ => memory.entries[place].mark ^= 0x81,
             };
             damage(&mut memory);
             let store = Store::resume(numbers, memory.lend());

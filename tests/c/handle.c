@@ -130,22 +130,51 @@ static void ask(const yk_store *store) {
 }
 
 static void count_files(yk_store *store) {
-    require(yk_store_keep(store, 20) == YK_ACCEPTED && store->numbers.files == 1, "keep");
+    require(yk_store_keep(store, 20, YK_PERMANENT) == YK_ACCEPTED && store->numbers.files == 1, "keep");
     yk_view_answer view = yk_store_view(store, 30);
     yk_part part = yk_store_view_part(store, view);
     require(view.place == YK_AREA && part.bytes == areas && part.length == 16, "view");
     require(view.later == 0 && view.requests_between == 2, "an update between");
     require(row_is(yk_row_at(part.bytes, 1), 7, 50), "a view's row");
     ask_units(store);
-    require(yk_store_keep(store, 20) == YK_NOT_TO_KEEP && store->numbers.files == 1, "numbers of a refusal");
-    require(yk_store_keep(store, 61) == YK_TIME_AFTER_LAST && store->numbers.files == 1, "keep a late time");
-    require(yk_store_keep(store, UINT64_MAX) == YK_TIME_AFTER_LAST, "keep the latest");
+    require(yk_store_keep(store, 20, YK_FRIDAY) == YK_NOT_TO_KEEP && store->numbers.files == 1,
+        "numbers of a refusal");
+    require(yk_store_keep(store, 61, YK_FRIDAY) == YK_TIME_AFTER_LAST && store->numbers.files == 1,
+        "keep a late time");
+    require(yk_store_keep(store, UINT64_MAX, YK_SUNDAY) == YK_TIME_AFTER_LAST, "keep the latest");
     require(yk_store_drop(store, 20) == YK_ACCEPTED && store->numbers.files == 0, "drop");
-    require(yk_store_keep(store, store->numbers.last) == YK_ACCEPTED, "keep the last time");
+    require(yk_store_keep(store, store->numbers.last, YK_SUNDAY) == YK_ACCEPTED, "keep the last time");
     ask_units(store);
     ask_late(store, 61, 1);
     ask_late(store, UINT64_MAX, 1);
-    require(yk_store_drop(store, 60) == YK_ACCEPTED && store->numbers.files == 0, "drop it");
+    require(yk_store_drop(store, 60) == YK_ACCEPTED && store->numbers.files == 0, "drop it, whatever its mark");
+}
+
+static int entry_is(yk_entry entry, uint64_t time, uint32_t rows, uint32_t mark) {
+    return entry.time == time && entry.rows == rows && entry.mark == mark;
+}
+
+/* The answer, and that the handle goes on with the number of files that are left. */
+static int goes(yk_store *store, uint32_t mark, int question, uint32_t gone, uint32_t left) {
+    uint32_t records = store->numbers.records;
+    store->record = 1;
+    yk_drop_marked_answer answer = yk_store_drop_marked(store, mark);
+    return answer.question == question && answer.gone == gone && answer.numbers.files == left
+        && store->numbers.files == left && store->numbers.records == records && store->record == 0;
+}
+
+static void marks(yk_store *store) {
+    require(yk_store_keep(store, 40, YK_SUNDAY) == YK_ACCEPTED, "keep 40 until Sunday");
+    require(yk_store_keep(store, 20, YK_FRIDAY) == YK_ACCEPTED, "keep 20 until Friday");
+    require(entry_is(entries[0], 20, 2, 5) && entry_is(entries[1], 40, 1, 7), "a mark goes with its file");
+    require(yk_store_keep(store, 30, 6) == YK_WRONG_MARK && store->numbers.files == 2, "no such mark");
+    require(goes(store, YK_PERMANENT, YK_WRONG_MARK, 0, 2) && goes(store, 6, YK_WRONG_MARK, 0, 2), "nor here");
+    require(goes(store, YK_FRIDAY, YK_ACCEPTED, 1, 1), "Friday's deletion");
+    require(entry_is(entries[0], 40, 1, 7) && entry_is(entries[1], 0, 0, 0), "what stays moves down");
+    require(row_is(yk_row_at(areas, 0), 7, 44), "its rows too");
+    ask_units(store);
+    require(goes(store, YK_FRIDAY, YK_ACCEPTED, 0, 1), "none is left for Friday");
+    require(goes(store, YK_SUNDAY, YK_ACCEPTED, 1, 0) && yk_store_audit(store), "Sunday's deletion");
 }
 
 /* No request yet: every time is answered as time 0. */
@@ -171,8 +200,9 @@ static void no_requests(void) {
             require(difference_is(&store, asked[i], asked[k], 0), "its differences");
         }
     }
-    require(yk_store_keep(&store, 0) == YK_NOT_TO_KEEP && yk_store_keep(&store, 1) == YK_TIME_AFTER_LAST,
-        "nothing to keep");
+    require(yk_store_keep(&store, 0, YK_PERMANENT) == YK_NOT_TO_KEEP, "time 0 is not kept");
+    require(yk_store_keep(&store, 1, YK_PERMANENT) == YK_TIME_AFTER_LAST, "nothing to keep");
+    require(goes(&store, YK_FRIDAY, YK_ACCEPTED, 0, 0), "nothing to delete");
 }
 
 static void open_again(void) {
@@ -197,13 +227,15 @@ static void not_lent(void) {
     yk_store store = over(0);
     build(&store);
     ask(&store);
-    require(yk_store_keep(&store, 20) == YK_CATALOGUE_FULL, "keep without areas");
+    require(yk_store_keep(&store, 20, YK_FRIDAY) == YK_CATALOGUE_FULL, "keep without areas");
+    require(goes(&store, YK_FRIDAY, YK_ACCEPTED, 0, 0), "a marked deletion without areas");
     require(yk_store_view_part(&store, yk_store_view(&store, 0)).length == 0, "an empty view");
     memset(&store, 0, sizeof store);
     store.log_length = store.table_length = 1000;
     require(yk_store_fresh(&store, 3, 2, LIMIT) == YK_MEMORY, "fresh with nothing lent");
     require(yk_store_open(&store) == YK_HEADER, "open with nothing lent");
     require(yk_store_insert(&store, 1, 1, 1) == YK_HEADER && !yk_store_audit(&store), "no store");
+    require(goes(&store, YK_FRIDAY, YK_HEADER, 0, 0) && goes(&store, 6, YK_HEADER, 0, 0), "no store, no files");
     require(yk_store_units(&store, 0).question == YK_HEADER, "no store, no units");
     require(yk_store_units_between(&store, 0, 0).question == YK_HEADER, "no store, no difference");
 }
@@ -215,7 +247,7 @@ static void past_32_bits(void) {
     for (uint32_t k = 1; k <= 3; k++) {
         require(yk_store_insert(&store, k, k, UINT32_MAX) == YK_ACCEPTED, "insert the largest count");
     }
-    require(yk_store_keep(&store, 3) == YK_ACCEPTED, "keep all three");
+    require(yk_store_keep(&store, 3, YK_PERMANENT) == YK_ACCEPTED, "keep all three");
     for (uint32_t k = 1; k <= 3; k++) {
         require(yk_store_delete(&store, 3 + k, k) == YK_ACCEPTED, "delete it");
     }
@@ -225,14 +257,14 @@ static void past_32_bits(void) {
 }
 
 static void words(void) {
-    for (unsigned question = 0; question <= 17; question++) {
+    for (unsigned question = 0; question <= 18; question++) {
         const char *text = yk_question_text(question);
         require(strcmp(text, "no such question") != 0, "each question has words");
         for (unsigned other = 0; other < question; other++) {
             require(strcmp(text, yk_question_text(other)) != 0, "and its own");
         }
     }
-    require(strcmp(yk_question_text(18), "no such question") == 0, "no question 18");
+    require(strcmp(yk_question_text(19), "no such question") == 0, "no question 19");
     char version[32];
     snprintf(version, sizeof version, "%d.%d.%d", YK_VERSION_MAJOR, YK_VERSION_MINOR, YK_VERSION_PATCH);
     require(strcmp(version, YK_VERSION) == 0, "one version");
@@ -249,8 +281,8 @@ static void lengths(void) {
     require(yk_store_bytes(need) == need.log + 48 + need.table + 16 + need.areas, "bytes of a block");
     yk_store store = yk_store_in(block, need);
     build(&store);
-    require(yk_store_keep(&store, 20) == YK_ACCEPTED && yk_store_audit(&store), "a store in a block");
-    require(yk_store_keep(&store, 30) == YK_CATALOGUE_FULL, "a file more");
+    require(yk_store_keep(&store, 20, YK_FRIDAY) == YK_ACCEPTED && yk_store_audit(&store), "a store in a block");
+    require(yk_store_keep(&store, 30, YK_FRIDAY) == YK_CATALOGUE_FULL, "a file more");
     store = yk_store_in(NULL, need);
     require(yk_store_fresh(&store, 3, 2, LIMIT) == YK_MEMORY, "no block");
     need = yk_lengths_for(3, 65, LIMIT, 8, 1);
@@ -262,6 +294,7 @@ int main(void) {
     build(&store);
     ask(&store);
     count_files(&store);
+    marks(&store);
     open_again();
     not_lent();
     no_requests();

@@ -56,8 +56,9 @@ static int update(uint64_t time, uint32_t article, uint32_t count) {
     return taken(yk_update(numbers, STORE, time, article, count));
 }
 
+/* The files here are permanent; marks.c has the marks. */
 static int keep(uint64_t time) {
-    return taken(yk_keep(numbers, STORE, time));
+    return taken(yk_keep(numbers, STORE, time, YK_PERMANENT));
 }
 
 static int drop(uint64_t time) {
@@ -84,7 +85,7 @@ static bool numbers_are(int order, int page, uint32_t limit, uint32_t records, u
 }
 
 static bool entry_is(int i, uint64_t time, uint32_t rows) {
-    return lent.entries[i].time == time && lent.entries[i].rows == rows;
+    return lent.entries[i].time == time && lent.entries[i].rows == rows && lent.entries[i].mark == 0;
 }
 
 static bool zero(const uint8_t *bytes, size_t length) {
@@ -119,7 +120,8 @@ static void compare_constants(void) {
         {YK_ROW_LIMIT, 4}, {YK_MEMORY, 5}, {YK_TIME_NOT_ABOVE, 6}, {YK_ARTICLE_PRESENT, 7},
         {YK_ARTICLE_ABSENT, 8}, {YK_ROWS_FULL, 9}, {YK_LOG_FULL, 10}, {YK_INDEX_FULL, 11},
         {YK_TIME_AFTER_LAST, 12}, {YK_OUTPUT_SHORT, 13}, {YK_NOT_TO_KEEP, 14}, {YK_CATALOGUE_FULL, 15},
-        {YK_NOT_KEPT, 16}, {YK_WRONG_RECORD, 17}, {YK_EMPTY, 0}, {YK_AREA, 1}, {YK_CURRENT, 2}};
+        {YK_NOT_KEPT, 16}, {YK_WRONG_RECORD, 17}, {YK_WRONG_MARK, 18}, {YK_EMPTY, 0}, {YK_AREA, 1},
+        {YK_CURRENT, 2}, {YK_PERMANENT, 0}, {YK_FRIDAY, 5}, {YK_SUNDAY, 7}};
     for (size_t i = 0; i < sizeof constants / sizeof constants[0]; i++) {
         require(constants[i][0] == constants[i][1], "a constant has 01's number");
     }
@@ -303,6 +305,9 @@ static void keep_several(void) {
     require(view_is(30, YK_AREA, 2, 2, 0, 2, lent.areas + 2 * TABLE), "view of 30 after drop 6");
     require(audit(), "audit with three files");
     require(keep(45) == YK_ACCEPTED && entry_is(3, 45, 1), "keep 45");
+    yk_drop_marked_answer none = yk_drop_marked(numbers, STORE, YK_FRIDAY);
+    require(none.question == YK_ACCEPTED && none.gone == 0 && none.numbers.files == 4, "permanent files stay");
+    require(entry_is(3, 45, 1) && audit(), "the last one too");
 }
 
 /* ---- times after the last */
@@ -370,6 +375,9 @@ static void damage(void) {
     lent.entries[3].rows++;
     require(!audit(), "audit of a damaged entry");
     lent.entries[3].rows--;
+    lent.entries[3].mark = 6;
+    require(!audit(), "audit of a wrong mark");
+    lent.entries[3].mark = 0;
     numbers.files--;
     require(!audit(), "audit of damaged numbers");
     numbers.files++;
@@ -401,8 +409,9 @@ static void refuse_later_calls(void) {
         "net change with wrong numbers");
     REFUSED(yk_units(wrong, STORE, 61).question, YK_HEADER, "units with wrong numbers");
     REFUSED(yk_units_between(wrong, STORE, 61, 61).question, YK_HEADER, "units between with wrong numbers");
-    REFUSED(yk_keep(wrong, STORE, 30).question, YK_HEADER, "keep with wrong numbers");
-    require(yk_keep(wrong, STORE, 30).numbers.records == 7, "a refusal answers the numbers it was given");
+    REFUSED(yk_keep(wrong, STORE, 61, 6).question, YK_HEADER, "keep with wrong numbers");
+    require(yk_keep(wrong, STORE, 30, 0).numbers.records == 7, "a refusal answers the numbers it was given");
+    REFUSED(yk_drop_marked(wrong, STORE, 6).question, YK_HEADER, "a marked deletion with wrong numbers");
 
     REFUSED(insert(60, 1, 1), YK_TIME_NOT_ABOVE, "insert at the last time");
     REFUSED(insert(61, 7, 1), YK_ARTICLE_PRESENT, "insert what is present");
@@ -427,10 +436,14 @@ static void refuse_later_calls(void) {
 
     REFUSED(keep(61), YK_TIME_AFTER_LAST, "keep 61: 12 goes before 15");
     REFUSED(keep(UINT64_MAX), YK_TIME_AFTER_LAST, "keep the latest time");
+    REFUSED(yk_keep(numbers, STORE, 61, 6).question, YK_TIME_AFTER_LAST, "12 goes before 18");
+    REFUSED(yk_keep(numbers, STORE, 0, 6).question, YK_WRONG_MARK, "18 goes before 14");
+    REFUSED(yk_keep(numbers, STORE, 30, 6).question, YK_WRONG_MARK, "18 goes before 15");
     REFUSED(keep(0), YK_NOT_TO_KEEP, "keep 0");
     REFUSED(keep(45), YK_NOT_TO_KEEP, "keep 45 again");
     REFUSED(keep(30), YK_CATALOGUE_FULL, "keep a fifth file");
     REFUSED(drop(30), YK_NOT_KEPT, "drop 30");
+    REFUSED(yk_drop_marked(numbers, STORE, 0).question, YK_WRONG_MARK, "a deletion of all permanent files");
 }
 
 /* Where a refusal has zeros beside the question, and where a view's part is empty. */
@@ -552,7 +565,9 @@ int main(int many, char **arguments) {
     damage();
     refuse_later_calls();
     refused_answers();
-    require(entry_is(FILES, 0xA5A5A5A5A5A5A5A5, 0xA5A5A5A5), "entries past the capacity stay");
+    const yk_entry past = lent.entries[FILES];
+    require(past.time == 0xA5A5A5A5A5A5A5A5 && past.rows == 0xA5A5A5A5 && past.mark == 0xA5A5A5A5,
+        "entries past the capacity stay");
     compare_index();
     delete_9();
     open_again();

@@ -2,7 +2,7 @@
 use mathlib.Core.Path.{_≡_, refl}
 use native.Mathlib.Omega.{arith}
 use Rattle.model.specs.declared.Refusal.{Refusal}
-use Rattle.model.specs.declared.Refusal.the-variants.{Header, Order, PageSize, RowLimit, Memory, TimeNotAbove, ArticlePresent, ArticleAbsent, RowsFull, LogFull, IndexFull, TimeAfterLast, OutputShort, NotToKeep, CatalogueFull, NotKept, WrongRecord}
+use Rattle.model.specs.declared.Refusal.the-variants.{Header, Order, PageSize, RowLimit, Memory, TimeNotAbove, ArticlePresent, ArticleAbsent, RowsFull, LogFull, IndexFull, TimeAfterLast, OutputShort, NotToKeep, CatalogueFull, NotKept, WrongRecord, WrongMark}
 use Rattle.model.specs.Answers.{refusesAt, refusal}
 use Rattle.answers.specs.Question.{questionOf, recordIn, numberOf, recordOf}
 
@@ -25,3 +25,4 @@ wrong-record-at-17 NotToKeep e = absurd (omega arith)
 wrong-record-at-17 CatalogueFull e = absurd (omega arith)
 wrong-record-at-17 NotKept e = absurd (omega arith)
 wrong-record-at-17 (WrongRecord k) e = refl
+wrong-record-at-17 WrongMark e = absurd (omega arith)

@@ -28,6 +28,7 @@ pub fn number(why: Refusal) -> Numbered
         Refusal::CatalogueFull => Numbered(15, 0),
         Refusal::NotKept => Numbered(16, 0),
         Refusal::WrongRecord(k) => Numbered(17, k.0),
+        Refusal::WrongMark => Numbered(18, 0),
     }
 }
 

@@ -1,12 +1,13 @@
 // The areas of the count files (01, "Count files"): "Keeping shifts the later files up; dropping shifts them down and zeroes
-// the last used entry and area."
+// the last used entry and area", and a marked deletion "closing up the rest in order" (02, wish 3).
 ghost use mathlib.Core.Path.{_≡_};
 ghost use mathlib.Core.Bool.{cond};
 ghost use Prim.Native.Nat.{_+_, _*_, _≤_, _<_};
 ghost use lib.ListN.{length};
-ghost use Rattle.model.specs.Files.{notOf};
+ghost use Rattle.catalogue.specs.Entries.{staysWhen};
 ghost use Rattle.areas.specs.Moved.{AreaFree, areaPut, areaJoined, areasClosed};
 use catalogue::Catalogue;
+use catalogue::Going;
 use model::Entry;
 
 // A table into the area of place `at`; the areas from there on go up by one.
@@ -21,13 +22,13 @@ pub fn put_area(areas: &mut [u8], limit: u32, files: usize, at: usize, table: &[
 }
 
 // The area of file i down to place j, if its entry e stays. Answers the place for the next.
-fn join_area(areas: &mut [u8], size: usize, e: Entry, t: u64, i: usize, j: usize) -> usize
+fn join_area(areas: &mut [u8], size: usize, e: Entry, going: Going, i: usize, j: usize) -> usize
     requires { ⌜ (j ≤ i) × (i < 16) ⌝ }
     requires { ⌜ size * i + size ≤ length (now areas) ⌝ }
-    ensures is { λ _. ⌜ now (areas .exit) ≡ areaJoined (notOf t e) size i j (now (areas .entry)) ⌝ }
-    ensures next { λ r. ⌜ r ≡ cond (notOf t e) (j + 1) j ⌝ }
+    ensures is { λ _. ⌜ now (areas .exit) ≡ areaJoined (staysWhen going e) size i j (now (areas .entry)) ⌝ }
+    ensures next { λ r. ⌜ r ≡ cond (staysWhen going e) (j + 1) j ⌝ }
 {
-    if catalogue::stays(e, t) {} else {
+    if catalogue::stays(e, going) {} else {
         return j;
     }
     if i == j {
@@ -38,16 +39,16 @@ fn join_area(areas: &mut [u8], size: usize, e: Entry, t: u64, i: usize, j: usize
 }
 
 // The areas of the files that stay, closed up in one pass, and zeros in those set free.
-pub fn close_areas(areas: &mut [u8], limit: u32, c: Catalogue, files: usize, t: u64)
+pub fn close_areas(areas: &mut [u8], limit: u32, c: Catalogue, files: usize, going: Going)
     requires { ⌜ (limit ≤ 1024) × (files ≤ 16) ⌝ }
     requires { ⌜ 8 * limit * files ≤ length (now areas) ⌝ }
-    ensures { λ _. ⌜ now (areas .exit) ≡ areasClosed (notOf t) limit files (c .entries) (now (areas .entry)) ⌝ }
+    ensures { λ _. ⌜ now (areas .exit) ≡ areasClosed (staysWhen going) limit files (c .entries) (now (areas .entry)) ⌝ }
 {
     let size = 8 * (limit as usize);
     let mut i = 0;
     let mut j = 0;
     while i < files {
-        j = join_area(areas, size, catalogue::entry_of(c, i), t, i, j);
+        j = join_area(areas, size, catalogue::entry_of(c, i), going, i, j);
         i += 1;
     }
     codec::fill_zero(&mut areas[size * j..size * files]);

@@ -10,11 +10,11 @@ ghost use lib.Dec.{leb, ltb};
 ghost use Rattle.codec.specs.Parts.{put};
 ghost use Rattle.model.specs.declared.Entry.{Entry};
 ghost use Rattle.model.specs.Outset.{emptyTable, filesFrom, latest, earliest};
+ghost use Rattle.model.specs.Marks as marks;
 ghost use Rattle.model.specs.Memory as memory;
 ghost use Rattle.model.specs.Memory.{noEntry};
-ghost use Rattle.model.specs.Files.{notOf};
 ghost use Rattle.catalogue.specs.Files.{Loaded};
-ghost use Rattle.catalogue.specs.Entries.{timeKept, placeOf, withEntries, entryPut, joined, entriesStaying, entriesClosed};
+ghost use Rattle.catalogue.specs.Entries.{timeKept, placeOf, withEntries, entryPut, staysWhen, joined, entriesStaying, entriesClosed};
 ghost use Rattle.catalogue.specs.Places.{heldAt, PlaceWithin};
 use model::Entry;
 use model::Held;
@@ -25,6 +25,12 @@ use model::Settings;
 pub struct Catalogue {
     pub entries: [Entry; 16],
     pub lent: usize,
+}
+
+// Which count files go: that of a time, or those of a mark.
+pub enum Going {
+    Of(u64),
+    Marked(u32),
 }
 
 // A catalogue of which some files are let go, and how many stay.
@@ -133,13 +139,39 @@ pub fn later(c: Catalogue, files: usize, t: u64, current: Held) -> Held
     best
 }
 
+// ---- marks
+
+// Whether files are deleted by a mark.
+pub fn goes(mark: u32) -> bool
+    ensures { λ r. ⌜ r ≡ marks.goes mark ⌝ }
+{
+    if mark == Entry::FRIDAY {
+        return true;
+    }
+    mark == Entry::SUNDAY
+}
+
+// Whether a file may have a mark.
+pub fn is_mark(mark: u32) -> bool
+    ensures { λ r. ⌜ r ≡ marks.isMark mark ⌝ }
+{
+    if mark == Entry::PERMANENT {
+        return true;
+    }
+    goes(mark)
+}
+
 // ---- the entries with one more, or with fewer
 
 // An entry of no file.
 pub fn no_entry() -> Entry
     ensures { λ r. ⌜ r ≡ noEntry ⌝ }
 {
-    Entry { time: 0, rows: 0 }
+    Entry {
+        time: 0,
+        rows: 0,
+        mark: Entry::PERMANENT,
+    }
 }
 
 fn with_entry(c: Catalogue, i: usize, e: Entry) -> Catalogue
@@ -199,18 +231,21 @@ pub fn inserted(c: Catalogue, files: usize, at: usize, e: Entry) -> Catalogue
     with_entry(d, at, e)
 }
 
-// Whether the file of entry e stays where that of time t is let go.
-pub fn stays(e: Entry, t: u64) -> bool
-    ensures { λ r. ⌜ r ≡ notOf t e ⌝ }
+// Whether the file of entry e stays where others go.
+pub fn stays(e: Entry, going: Going) -> bool
+    ensures { λ r. ⌜ r ≡ staysWhen going e ⌝ }
 {
-    e.time != t
+    match going {
+        Going::Of(t) => e.time != t,
+        Going::Marked(k) => e.mark != k,
+    }
 }
 
-fn join(left: Left, e: Entry, t: u64) -> Left
+fn join(left: Left, e: Entry, going: Going) -> Left
     requires { ⌜ left .files < 16 ⌝ }
-    ensures { λ r. ⌜ r ≡ joined (notOf t) left e ⌝ }
+    ensures { λ r. ⌜ r ≡ joined (staysWhen going) left e ⌝ }
 {
-    if stays(e, t) {
+    if stays(e, going) {
         return Left {
             catalogue: with_entry(left.catalogue, left.files, e),
             files: left.files + 1,
@@ -235,10 +270,10 @@ fn emptied(c: Catalogue, start: usize, end: usize) -> Catalogue
 }
 
 // Of the first `files` entries those that stay, closed up, and zero entries behind them.
-pub fn closed_up(c: Catalogue, files: usize, t: u64) -> Left
+pub fn closed_up(c: Catalogue, files: usize, going: Going) -> Left
     requires { ⌜ files ≤ 16 ⌝ }
-    ensures is { λ r. ⌜ r .catalogue ≡ withEntries c (entriesClosed (notOf t) files (c .entries)) ⌝ }
-    ensures count { λ r. ⌜ r .files ≡ length (entriesStaying (notOf t) (take files (c .entries))) ⌝ }
+    ensures is { λ r. ⌜ r .catalogue ≡ withEntries c (entriesClosed (staysWhen going) files (c .entries)) ⌝ }
+    ensures count { λ r. ⌜ r .files ≡ length (entriesStaying (staysWhen going) (take files (c .entries))) ⌝ }
     ensures within { λ r. ⌜ r .files ≤ files ⌝ }
 {
     let mut left = Left {
@@ -247,7 +282,7 @@ pub fn closed_up(c: Catalogue, files: usize, t: u64) -> Left
     };
     let mut i = 0;
     while i < files {
-        left = join(left, entry_of(c, i), t);
+        left = join(left, entry_of(c, i), going);
         i += 1;
     }
     Left {

@@ -43,6 +43,7 @@ files-longer R last t rs new before (x ∷ xs) h late f =
         held = omega (arith, f .0 .held);
         rows-are = f .0 .rows-are ∙ ap length (sym same);
         area-is = f .0 .area-is ∙ ap (tableBytes R) (sym same);
+        mark-is = f .0 .mark-is;
       },
       files-longer R last t rs new u xs h late (f .1),
     )
@@ -148,6 +149,7 @@ module _ (st : State) (t : ℕ) (new : List Rec) (o : InOrder st) (g : MayFollow
           table-bytes = are-bytes-put (m .table) 0 (tableBytes limit (timeslice t all)) (l .table-bytes) (are-bytes-table limit (timeslice t all));
           entry-times = l .entry-times;
           entry-rows = l .entry-rows;
+          entry-marks = l .entry-marks;
           area-bytes = l .area-bytes;
         };
         passable = record {

@@ -188,15 +188,15 @@ module _ (P : State → Type 0) (st : State) (o : InOrder st) (stood : P st)
     (new : (t : ℕ) (rs : List Rec) → MayFollow st t rs → P (appended st t rs)) where
   pub insert-leaves : (t a c : ℕ) → CallFits (Call.insert t a c) → P (insertOf st t a c .state)
   unfolding insertOf
-  insert-leaves t a c f = either-left P (firstNo (insertQuestions st t a)) st _ stood (λ q. new t _ (insert-may-follow st t a c o f q))
+  insert-leaves t a c f = either-left P tt (firstNo (insertQuestions st t a)) st _ stood (λ q. new t _ (insert-may-follow st t a c o f q))
 
   pub delete-leaves : (t a : ℕ) → CallFits (Call.delete t a) → P (deleteOf st t a .state)
   unfolding deleteOf
-  delete-leaves t a f = either-left P (firstNo (presentQuestions st t a 1)) st _ stood (λ q. new t _ (delete-may-follow st t a o f q))
+  delete-leaves t a f = either-left P tt (firstNo (presentQuestions st t a 1)) st _ stood (λ q. new t _ (delete-may-follow st t a o f q))
 
   pub update-leaves : (t a c : ℕ) → CallFits (Call.update t a c) → P (updateOf st t a c .state)
   unfolding updateOf
-  update-leaves t a c f = either-left P (firstNo (presentQuestions st t a 2)) st _ stood (λ q. new t _ (update-may-follow st t a c o f q))
+  update-leaves t a c f = either-left P tt (firstNo (presentQuestions st t a 2)) st _ stood (λ q. new t _ (update-may-follow st t a c o f q))
 
 module _ (st : State) where
   pub insert-audited : (t a c : ℕ) → InOrder st → CallFits (Call.insert t a c) → InOrder (insertOf st t a c .state)

@@ -1,6 +1,6 @@
 -- The audit is exact: it passes just the states that accepted calls leave. Of a state that it passes, the memory itself is
 -- opened, and then its files are kept one after the other: each keep writes what is there. Assumes nothing.
-use Prim.Native.Nat.{ℕ, _+_, _*_, _≤_, _<_}
+use Prim.Native.Nat.{ℕ, _+_, _*_, _^_, _≤_, _<_}
 use mathlib.Core.Path.{_≡_, refl, sym, ap, _∙_}
 use mathlib.Core.List.{List, [], _∷_, _++_, append-assoc, append-nil, map}
 use mathlib.Core.Bool.{not, _&&_}
@@ -18,6 +18,7 @@ use Rattle.model.specs.Answers.{firstNo}
 use Rattle.model.specs.Records.{headerLast}
 use Rattle.model.specs.Rows.{tableBytes}
 use Rattle.model.specs.Timeslice.{timeslice}
+use Rattle.model.specs.Marks.{isMark}
 use Rattle.model.specs.Memory.{Memory, State, state, noEntry, logOf, rowsNow, sound, capacityOf, emptied}
 use Rattle.model.specs.Starts.{openedMemory, openedNumbers, openOf}
 use Rattle.model.specs.Files.{File, filesOf, areasBytes, entryOf, withCount, isKept, keepQuestions, fileAt, keepOf}
@@ -27,6 +28,7 @@ use Rattle.model.specs.Demands.{HoldsLog, AuditExact}
 use Rattle.model.specs.Facts.{AuditedFacts, InOrder}
 use Rattle.model.proofs.AuditLaws.{audited-facts, audited-sound, capacity-entries}
 use Rattle.model.proofs.FileLaws.{entries-files-in}
+use Rattle.model.proofs.MarkLaws.{mark-small}
 use Rattle.claims.proofs.Regions.{answered, none-asked, length-emptied}
 use Rattle.claims.proofs.Opened.{open-state}
 use Rattle.claims.proofs.SecondDemands.{reads, same-log, opens-alike}
@@ -111,20 +113,21 @@ module _ (st : State) (o : InOrder st) where
         length-put (emptied R m) 0 (map entryOf gs) (omega (arith, length-map gs entryOf, length-emptied R m, room, capacity-entries R (length (m .catalogue)) (length (m .areas)))) ∙ length-emptied R m in
         rw n
 
-    keep-asked : firstNo (keepQuestions (with gs) (f .entry .time)) ≡ 0
+    keep-asked : firstNo (keepQuestions (with gs) (f .entry .time) (f .entry .mark)) ≡ 0
     keep-asked =
         let s = with gs in
         let u = f .entry .time in
         answered 0 (sound s) _ (audited-sound s (reachable-in-order r .audited))
         (answered 11 (leb u (st .numbers .last)) _ (le-leb _ _ (next .is .held))
+        (answered 17 (isMark (f .entry .mark)) _ (next .is .mark-is)
         (answered 13 (not (eqb u 0) && not (isKept u (filesOf s))) _ (rw (ne-eqb u 0 (λ e. omega (arith, next .is .later)), files-front, next .not-kept))
-        (answered 14 (ltb (length gs) (capacityOf R (s .memory))) [] (rw slots-same (lt-ltb _ _ room)) none-asked)))
+        (answered 14 (ltb (length gs) (capacityOf R (s .memory))) [] (rw slots-same (lt-ltb _ _ room)) none-asked))))
 
-    file-is : fileAt (with gs) (f .entry .time) ≡ f
+    file-is : fileAt (with gs) (f .entry .time) (f .entry .mark) ≡ f
     file-is =
         let a = sym (next .is .rows-are) in
         let b = sym (next .is .area-is) in
-        let g : _≡_ {A = File} (fileAt (with gs) (f .entry .time)) (record { entry = record { time = f .entry .time; rows = f .entry .rows }; area = f .area }) = cc in
+        let g : _≡_ {A = File} (fileAt (with gs) (f .entry .time) (f .entry .mark)) (record { entry = record { time = f .entry .time; rows = f .entry .rows; mark = f .entry .mark }; area = f .area }) = cc in
         g
 
     areas-same : put (m .areas) 0 (areasBytes (gs ++ (f ∷ []))) ≡ m .areas
@@ -140,7 +143,7 @@ module _ (st : State) (o : InOrder st) where
         rw front
         (put-part (m .areas) 0 (8 * R * length gs') (omega (arith, mul-comm (8 * R) (length gs'), mul-comm (8 * R) slots)))
 
-    keep-is : keepOf (with gs) (f .entry .time) .state ≡ with (gs ++ (f ∷ []))
+    keep-is : keepOf (with gs) (f .entry .time) (f .entry .mark) .state ≡ with (gs ++ (f ∷ []))
     unfolding keepOf
     keep-is =
         let gs' = gs ++ (f ∷ []) in
@@ -152,8 +155,9 @@ module _ (st : State) (o : InOrder st) where
     keep-reached : Reachable (with (gs ++ (f ∷ [])))
     unfolding keepOf CallFits
     keep-reached =
-        let e : Accepted (keepOf (with gs) (f .entry .time)) = rw keep-asked in
-        rw keep-is at (Reachable.kept (f .entry .time) r (omega (arith, next .is .held, o .passable .last-fits)) e)
+        let e : Accepted (keepOf (with gs) (f .entry .time) (f .entry .mark)) = rw keep-asked in
+        let fits : (f .entry .time < 2 ^ 64) × (f .entry .mark < 2 ^ 32) = (omega (arith, next .is .held, o .passable .last-fits), omega (arith, mark-small (f .entry .mark) (next .is .mark-is))) in
+        rw keep-is at (Reachable.kept (f .entry .time) (f .entry .mark) r fits e)
 
   -- ---- all of them: the state itself
 

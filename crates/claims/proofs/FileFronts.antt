@@ -59,7 +59,7 @@ module _ (R last : ℕ) (rs : List Rec) where
       let n = next-file (g .entry .time) gs f hs (h .1) in
       let up : g .entry .time < f .entry .time = n .is .later in
       record {
-        is = record { later = omega (arith, h .0 .later); held = n .is .held; rows-are = n .is .rows-are; area-is = n .is .area-is };
+        is = record { later = omega (arith, h .0 .later); held = n .is .held; rows-are = n .is .rows-are; area-is = n .is .area-is; mark-is = n .is .mark-is };
         goes-last = rw (lt-ltb _ _ up, n .goes-last);
         not-kept = rw (lt-eqb up, n .not-kept);
       }

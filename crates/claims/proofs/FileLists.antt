@@ -17,17 +17,17 @@ use Rattle.model.specs.Legal.{legal}
 use Rattle.model.specs.Files.{File, filesIn, noFile, areasBytes, entryOf}
 use Rattle.model.proofs.TimeLaws.{timeslice-rows}
 use Rattle.model.proofs.FileLaws.{map-append, areas-append}
+use Rattle.model.proofs.MarkLaws.{mark-small}
 use Rattle.rows.proofs.TableBytes.{length-table-bytes, are-bytes-table}
 use Rattle.model.specs.Facts.{FilesAre}
-use Rattle.claims.proofs.Regions.{EntriesFit, entries-nil, entries-cons}
+use Rattle.claims.proofs.Regions.{EntryFits, no-entry-fits, EntriesFit, entries-nil, entries-cons}
 
 -- ---- files that fit their entries and areas
 
 pub record FileFits (R : ℕ) (f : File) : Type 0 where
   pub area-long : length (f .area) ≡ 8 * R
   pub area-bytes : AreBytes (f .area)
-  pub time-fits : f .entry .time < 2 ^ 64
-  pub rows-fit : f .entry .rows < 2 ^ 32
+  pub entry-fits : EntryFits (f .entry)
 
 unfoldable pub FilesFit : ℕ → List File → Type 0
 FilesFit R [] = Unit
@@ -42,7 +42,7 @@ pub no-files-fit : (R n : ℕ) → FilesFit R (replicate n (noFile R))
 unfolding FilesFit
 no-files-fit R zero = tt
 no-files-fit R (suc n) =
-    (record { area-long = length-replicate (8 * R) 0; area-bytes = are-bytes-zeros (8 * R); time-fits = omega arith; rows-fit = omega arith }, no-files-fit R n)
+    (record { area-long = length-replicate (8 * R) 0; area-bytes = are-bytes-zeros (8 * R); entry-fits = no-entry-fits }, no-files-fit R n)
 
 module _ (R last : ℕ) (rs : List Rec) (ok : legal R rs ≡ true) (small : last < 2 ^ 64) (few : R ≤ 1024) where
   pub files-fit : (before : ℕ) (fs : List File) → FilesAre R last rs before fs → FilesFit R fs
@@ -54,8 +54,11 @@ module _ (R last : ℕ) (rs : List Rec) (ok : legal R rs ≡ true) (small : last
         record {
           area-long = ap length (h .0 .area-is) ∙ length-table-bytes R rows most;
           area-bytes = rw (h .0 .area-is) (are-bytes-table R rows);
-          time-fits = omega (arith, h .0 .held);
-          rows-fit = omega (arith, h .0 .rows-are);
+          entry-fits = record {
+            time-fits = omega (arith, h .0 .held);
+            rows-fit = omega (arith, h .0 .rows-are);
+            mark-fits = omega (arith, mark-small (f .entry .mark) (h .0 .mark-is));
+          };
         },
         files-fit (f .entry .time) fs (h .1),
       )
@@ -63,7 +66,7 @@ module _ (R last : ℕ) (rs : List Rec) (ok : legal R rs ≡ true) (small : last
 pub entries-of-files : (R : ℕ) (fs : List File) → FilesFit R fs → EntriesFit (map entryOf fs)
 unfolding FilesFit
 entries-of-files R [] h = entries-nil
-entries-of-files R (f ∷ fs) h = entries-cons (f .entry) (map entryOf fs) (h .0 .time-fits) (h .0 .rows-fit) (entries-of-files R fs (h .1))
+entries-of-files R (f ∷ fs) h = entries-cons (f .entry) (map entryOf fs) (h .0 .entry-fits) (entries-of-files R fs (h .1))
 
 pub bytes-of-files : (R : ℕ) (fs : List File) → FilesFit R fs → AreBytes (areasBytes fs)
 unfolding FilesFit areasBytes

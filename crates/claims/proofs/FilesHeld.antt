@@ -1,93 +1,95 @@
--- A count file of a time is held from the accepted keep of that time until an accepted drop of it, along any list of calls,
--- refused ones included (demand 3). Assumes nothing.
-use Prim.Native.Nat.{ℕ, zero, suc}
+-- A count file of a time is held, with its mark, from the accepted keep of that time until an accepted drop of it or of its mark,
+-- along any list of calls, refused ones included (demand 3). Assumes nothing.
+use Prim.Native.Nat.{ℕ, zero, suc, _<_}
 use mathlib.Core.Path.{_≡_, refl, sym, ap, _∙_}
 use mathlib.Core.List.{List, [], _∷_}
-use mathlib.Core.Bool.{Bool, true, false, not, cond, _&&_, _||_, false≢true}
+use mathlib.Core.Bool.{Bool, true, false, not, cond, _&&_, _||_}
+use native.Mathlib.Omega.{arith}
 use lib.Dec.{ltb, eqb}
-use borrow.Author.Tests.{eqb-true, eqb-false, ne-eqb}
+use borrow.Author.Tests.{ltb-true, eqb-true, eqb-false, ne-eqb}
 use Rattle.model.specs.Answers.{firstNo}
 use Rattle.model.specs.Records.{Rec}
 use Rattle.model.specs.Memory.{State}
 use Rattle.model.specs.Changes.{insertQuestions, presentQuestions, appended, insertOf, deleteOf, updateOf}
-use Rattle.model.specs.Files.{File, filesIn, filesOf, isKept, keepQuestions, fileIn, fileAt, keepOf, staying, notOf, dropQuestions, dropOf}
+use Rattle.model.specs.Files.{File, filesIn, filesOf, isKept, keepQuestions, fileIn, fileAt, keepOf, staying, notOf, dropQuestions, dropOf, notMarked, dropMarkedQuestions, dropMarkedOf}
 use Rattle.model.specs.Promises.{isRefused}
 use Rattle.model.specs.Facts.{InOrder}
 use Rattle.model.specs.Calls.{begun, Call, AllFit, step, run}
-use Rattle.model.specs.Demands.{heldNext, heldAfter, HeldSinceKept}
+use Rattle.model.specs.Demands.{left, marksAt, otherMarks, heldNext, heldAfter, some, HeldSinceKept}
+use Rattle.model.proofs.Compare.{lt-eqb}
 use Rattle.claims.proofs.Opened.{start-audited, start-files}
 use Rattle.claims.proofs.Kept.{keep-asked, kept-files, reduced-files}
 use Rattle.claims.proofs.Lists.{step-in-order}
 
 -- ---- lists of files
 
-or-last : (a b c : Bool) → (a || (b || c)) ≡ ((a || b) || c)
-or-last true b c = refl
-or-last false b c = refl
-
-or-turned : (a b : Bool) → (a || b) ≡ (b || a)
-or-turned true true = refl
-or-turned true false = refl
-or-turned false true = refl
-or-turned false false = refl
-
--- with a file more there is one of its time, and of any other time as before
-pub kept-with : (t : ℕ) (f : File) (fs : List File) → isKept t (fileIn f fs) ≡ (isKept t fs || eqb (f .entry .time) t)
-unfolding isKept fileIn
-kept-with t f [] = or-turned (eqb (f .entry .time) t) false
-kept-with t f (x ∷ xs) = by (kept-with t f xs) (ltb (x .entry .time) (f .entry .time))
+-- one is held exactly where it has a mark
+pub kept-marked : (t : ℕ) (fs : List File) → isKept t fs ≡ some (marksAt t fs)
+unfolding isKept some marksAt
+kept-marked t [] = refl
+kept-marked t (x ∷ xs) = by (eqb (x .entry .time) t) (kept-marked t xs)
   where
-    by : isKept t (fileIn f xs) ≡ (isKept t xs || eqb (f .entry .time) t) → (q : Bool)
-        → isKept t (cond q (x ∷ fileIn f xs) (f ∷ (x ∷ xs))) ≡ ((eqb (x .entry .time) t || isKept t xs) || eqb (f .entry .time) t)
-    by ih true = ap (λ (b : Bool). eqb (x .entry .time) t || b) ih ∙ or-last (eqb (x .entry .time) t) (isKept t xs) (eqb (f .entry .time) t)
-    by ih false = or-turned (eqb (f .entry .time) t) (eqb (x .entry .time) t || isKept t xs)
+    by : (q : Bool) → isKept t xs ≡ some (marksAt t xs) → (q || isKept t xs) ≡ some (cond q (x .entry .mark ∷ marksAt t xs) (marksAt t xs))
+    by true ih = refl
+    by false ih = ih
+
+-- with a file more, its mark is one of its time's, and those of any other time are as before
+pub marks-with : (t : ℕ) (f : File) (fs : List File) → marksAt t (fileIn f fs) ≡ cond (eqb (f .entry .time) t) (f .entry .mark ∷ marksAt t fs) (marksAt t fs)
+unfolding marksAt fileIn
+marks-with t f [] = refl
+marks-with t f (x ∷ xs) = by (ltb (x .entry .time) (f .entry .time)) refl (marks-with t f xs)
+  where
+    -- x is earlier than f
+    behind : x .entry .time < f .entry .time → (q : Bool) → eqb (f .entry .time) t ≡ q
+        → cond (eqb (x .entry .time) t) (x .entry .mark ∷ cond q (f .entry .mark ∷ marksAt t xs) (marksAt t xs)) (cond q (f .entry .mark ∷ marksAt t xs) (marksAt t xs))
+        ≡ cond q (f .entry .mark ∷ marksAt t (x ∷ xs)) (marksAt t (x ∷ xs))
+    behind l true e = rw (lt-eqb {a = x .entry .time} {b = t} (omega (arith, eqb-true (f .entry .time) t e)))
+    behind l false e = refl
+
+    by : (p : Bool) → ltb (x .entry .time) (f .entry .time) ≡ p
+        → marksAt t (fileIn f xs) ≡ cond (eqb (f .entry .time) t) (f .entry .mark ∷ marksAt t xs) (marksAt t xs)
+        → marksAt t (cond p (x ∷ fileIn f xs) (f ∷ (x ∷ xs))) ≡ cond (eqb (f .entry .time) t) (f .entry .mark ∷ marksAt t (x ∷ xs)) (marksAt t (x ∷ xs))
+    by true e ih = rw ih (behind (ltb-true _ _ e) (eqb (f .entry .time) t) refl)
+    by false e ih = refl
 
 -- without the files of time u there is none of time u, and of any other time as before
-gone : (k r : Bool) → (k && not r) ≡ ((r || k) && not r)
-gone true true = refl
-gone true false = refl
-gone false true = refl
-gone false false = refl
-
-stays : (q k r : Bool) → (q && r) ≡ false → (q || (k && not r)) ≡ ((q || k) && not r)
-stays true k true e = absurd (false≢true (sym e))
-stays true k false e = refl
-stays false k r e = refl
-
--- one time is not two
-not-both : (a t u : ℕ) → eqb a u ≡ false → (eqb a t && eqb u t) ≡ false
-not-both a t u e = by (eqb a t) refl
+pub marks-without : (t u : ℕ) (fs : List File) → marksAt t (staying (notOf u) fs) ≡ cond (eqb u t) [] (marksAt t fs)
+unfolding marksAt staying
+marks-without t u [] = by (eqb u t)
   where
-    by : (q : Bool) → eqb a t ≡ q → (eqb a t && eqb u t) ≡ false
-    by true f =
-        let is : a ≡ t = eqb-true _ _ f in
-        rw (f, ne-eqb u t (λ g. eqb-false a u e (is ∙ sym g)))
-    by false f = rw f
-
-pub kept-without : (t u : ℕ) (fs : List File) → isKept t (staying (notOf u) fs) ≡ (isKept t fs && not (eqb u t))
-unfolding isKept staying
-kept-without t u [] = refl
-kept-without t u (x ∷ xs) = by (kept-without t u xs) (eqb (x .entry .time) u) refl
+    by : (q : Bool) → _≡_ {A = List ℕ} [] (cond q [] [])
+    by true = refl
+    by false = refl
+marks-without t u (x ∷ xs) = by (eqb (x .entry .time) u) refl (eqb u t) refl (marks-without t u xs)
   where
-    by : isKept t (staying (notOf u) xs) ≡ (isKept t xs && not (eqb u t)) → (p : Bool) → eqb (x .entry .time) u ≡ p
-        → isKept t (staying (notOf u) (x ∷ xs)) ≡ ((eqb (x .entry .time) t || isKept t xs) && not (eqb u t))
-    by ih true e =
-        let is : x .entry .time ≡ u = eqb-true _ _ e in
-        rw e (ih ∙ rw is (gone (isKept t xs) (eqb u t)))
-    by ih false e = rw (e, ih) (stays (eqb (x .entry .time) t) (isKept t xs) (eqb u t) (not-both (x .entry .time) t u e))
+    by : (p : Bool) → eqb (x .entry .time) u ≡ p → (q : Bool) → eqb u t ≡ q → marksAt t (staying (notOf u) xs) ≡ cond q [] (marksAt t xs)
+        → marksAt t (cond (not p) (x ∷ staying (notOf u) xs) (staying (notOf u) xs)) ≡ cond q [] (marksAt t (x ∷ xs))
+    by true e true f ih = ih
+    by true e false f ih = let is : x .entry .time ≡ u = eqb-true _ _ e in ih ∙ rw (is, f)
+    by false e true f ih =
+        let is : u ≡ t = eqb-true _ _ f in
+        rw (ih, ne-eqb (x .entry .time) t (λ g. eqb-false _ _ e (g ∙ sym is)))
+    by false e false f ih = rw ih
+
+-- without the files of a mark, the other marks stay
+pub marks-other : (t k : ℕ) (fs : List File) → marksAt t (staying (notMarked k) fs) ≡ otherMarks k (marksAt t fs)
+unfolding marksAt staying otherMarks
+marks-other t k [] = refl
+marks-other t k (x ∷ xs) = by (eqb (x .entry .mark) k) refl (eqb (x .entry .time) t) refl (marks-other t k xs)
+  where
+    by : (p : Bool) → eqb (x .entry .mark) k ≡ p → (q : Bool) → eqb (x .entry .time) t ≡ q → marksAt t (staying (notMarked k) xs) ≡ otherMarks k (marksAt t xs)
+        → marksAt t (cond (not p) (x ∷ staying (notMarked k) xs) (staying (notMarked k) xs)) ≡ otherMarks k (cond q (x .entry .mark ∷ marksAt t xs) (marksAt t xs))
+    by true e true f ih = rw e ih
+    by true e false f ih = ih
+    by false e true f ih = rw (e, f, ih)
+    by false e false f ih = rw (f, ih)
 
 -- ---- one call
 
--- a refused keep of it or of another time, and a refused drop, change nothing
-refused-keep : (b c : Bool) → b ≡ (b || (c && false))
-refused-keep true c = refl
-refused-keep false true = refl
-refused-keep false false = refl
-
-refused-drop : (b c : Bool) → b ≡ (b && not (c && false))
-refused-drop true true = refl
-refused-drop true false = refl
-refused-drop false c = refl
+-- a refused keep or drop changes nothing
+refused : {A : Type 0} (c : Bool) (x y : A) → y ≡ cond (c && false) x y
+refused true x y = refl
+refused false x y = refl
 
 accepted : (c : Bool) → c ≡ (c && true)
 accepted true = refl
@@ -124,57 +126,71 @@ module _ (st : State) where
       by (suc k) q = rw q
 
   module _ (o : InOrder st) (t : ℕ) where
-    pub keep-held : (u : ℕ) → isKept t (filesOf (keepOf st u .state)) ≡ (isKept t (filesOf st) || (eqb u t && not (isRefused (keepOf st u .outcome))))
+    abbrev marks : List ℕ
+    marks = marksAt t (filesOf st)
+
+    pub keep-marks : (u k : ℕ) → marksAt t (filesOf (keepOf st u k .state)) ≡ cond (eqb u t && not (isRefused (keepOf st u k .outcome))) (k ∷ marks) marks
     unfolding keepOf isRefused
-    keep-held u = by (firstNo (keepQuestions st u)) refl
+    keep-marks u k = by (firstNo (keepQuestions st u k)) refl
       where
-        by : (k : ℕ) → firstNo (keepQuestions st u) ≡ k
-            → isKept t (filesOf (keepOf st u .state)) ≡ (isKept t (filesOf st) || (eqb u t && not (isRefused (keepOf st u .outcome))))
+        by : (n : ℕ) → firstNo (keepQuestions st u k) ≡ n
+            → marksAt t (filesOf (keepOf st u k .state)) ≡ cond (eqb u t && not (isRefused (keepOf st u k .outcome))) (k ∷ marks) marks
         by zero q =
             rw q
-            (ap (isKept t) (kept-files st o u (keep-asked st u q)) ∙ kept-with t (fileAt st u) (filesOf st)
-            ∙ ap (λ (b : Bool). isKept t (filesOf st) || b) (accepted (eqb u t)))
-        by (suc k) q = rw q (refused-keep (isKept t (filesOf st)) (eqb u t))
+            (ap (marksAt t) (kept-files st o u k (keep-asked st u k q)) ∙ marks-with t (fileAt st u k) (filesOf st)
+            ∙ ap (λ (b : Bool). cond b (k ∷ marks) marks) (accepted (eqb u t)))
+        by (suc n) q = rw q (refused (eqb u t) (k ∷ marks) marks)
 
-    pub drop-held : (u : ℕ) → isKept t (filesOf (dropOf st u .state)) ≡ (isKept t (filesOf st) && not (eqb u t && not (isRefused (dropOf st u .outcome))))
+    pub drop-marks : (u : ℕ) → marksAt t (filesOf (dropOf st u .state)) ≡ cond (eqb u t && not (isRefused (dropOf st u .outcome))) [] marks
     unfolding dropOf isRefused
-    drop-held u = by (firstNo (dropQuestions st u)) refl
+    drop-marks u = by (firstNo (dropQuestions st u)) refl
       where
-        by : (k : ℕ) → firstNo (dropQuestions st u) ≡ k
-            → isKept t (filesOf (dropOf st u .state)) ≡ (isKept t (filesOf st) && not (eqb u t && not (isRefused (dropOf st u .outcome))))
+        by : (n : ℕ) → firstNo (dropQuestions st u) ≡ n
+            → marksAt t (filesOf (dropOf st u .state)) ≡ cond (eqb u t && not (isRefused (dropOf st u .outcome))) [] marks
         by zero q =
             rw q
-            (ap (isKept t) (reduced-files (notOf u) st o) ∙ kept-without t u (filesOf st)
-            ∙ ap (λ (b : Bool). isKept t (filesOf st) && not b) (accepted (eqb u t)))
-        by (suc k) q = rw q (refused-drop (isKept t (filesOf st)) (eqb u t))
+            (ap (marksAt t) (reduced-files (notOf u) st o) ∙ marks-without t u (filesOf st)
+            ∙ ap (λ (b : Bool). cond b [] marks) (accepted (eqb u t)))
+        by (suc n) q = rw q (refused (eqb u t) [] marks)
 
-    pub step-held : (c : Call) → isKept t (filesOf (step st c)) ≡ heldNext t (isKept t (filesOf st)) st c
+    pub drop-marked-marks : (k : ℕ) → marksAt t (filesOf (dropMarkedOf st k .state)) ≡ cond (isRefused (dropMarkedOf st k .outcome)) marks (otherMarks k marks)
+    unfolding dropMarkedOf isRefused
+    drop-marked-marks k = by (firstNo (dropMarkedQuestions st k)) refl
+      where
+        by : (n : ℕ) → firstNo (dropMarkedQuestions st k) ≡ n
+            → marksAt t (filesOf (dropMarkedOf st k .state)) ≡ cond (isRefused (dropMarkedOf st k .outcome)) marks (otherMarks k marks)
+        by zero q = rw q (ap (marksAt t) (reduced-files (notMarked k) st o) ∙ marks-other t k (filesOf st))
+        by (suc n) q = rw q
+
+    pub step-marks : (c : Call) → marksAt t (filesOf (step st c)) ≡ heldNext t (marksAt t (filesOf st)) st c
     unfolding step heldNext
-    step-held (Call.insert u a c) = ap (isKept t) (insert-files u a c)
-    step-held (Call.delete u a) = ap (isKept t) (delete-files u a)
-    step-held (Call.update u a c) = ap (isKept t) (update-files u a c)
-    step-held (Call.position u) = refl
-    step-held (Call.table u out) = refl
-    step-held (Call.view u) = refl
-    step-held (Call.netChange a b out work) = refl
-    step-held (Call.units u) = refl
-    step-held (Call.difference a b) = refl
-    step-held (Call.keep u) = keep-held u
-    step-held (Call.drop u) = drop-held u
-    step-held Call.audit = refl
+    step-marks (Call.insert u a c) = ap (marksAt t) (insert-files u a c)
+    step-marks (Call.delete u a) = ap (marksAt t) (delete-files u a)
+    step-marks (Call.update u a c) = ap (marksAt t) (update-files u a c)
+    step-marks (Call.position u) = refl
+    step-marks (Call.table u out) = refl
+    step-marks (Call.view u) = refl
+    step-marks (Call.netChange a b out work) = refl
+    step-marks (Call.units u) = refl
+    step-marks (Call.difference a b) = refl
+    step-marks (Call.keep u k) = keep-marks u k
+    step-marks (Call.drop u) = drop-marks u
+    step-marks (Call.dropMarked k) = drop-marked-marks k
+    step-marks Call.audit = refl
 
 -- ---- a list of calls
 
-pub run-held : (t : ℕ) (st : State) (cs : List Call) → AllFit cs → InOrder st → isKept t (filesOf (run st cs)) ≡ heldAfter t (isKept t (filesOf st)) st cs
+pub run-marks : (t : ℕ) (st : State) (cs : List Call) → AllFit cs → InOrder st → marksAt t (filesOf (run st cs)) ≡ heldAfter t (marksAt t (filesOf st)) st cs
 unfolding run AllFit heldAfter
-run-held t st [] f o = refl
-run-held t st (c ∷ cs) f o =
-    run-held t (step st c) cs (f .1) (step-in-order st c (f .0) o) ∙ ap (λ (b : Bool). heldAfter t b (step st c) cs) (step-held st o t c)
+run-marks t st [] f o = refl
+run-marks t st (c ∷ cs) f o =
+    run-marks t (step st c) cs (f .1) (step-in-order st c (f .0) o) ∙ ap (λ (ks : List ℕ). heldAfter t ks (step st c) cs) (step-marks st o t c)
 
 -- no file at the start
 pub held-since-kept : HeldSinceKept
-unfolding filesIn isKept
+unfolding filesIn marksAt
 held-since-kept s cs sf cf e t =
     let st = begun s .state in
-    let none : isKept t (filesOf st) ≡ false = rw (start-files s e) in
-    run-held t st cs cf (start-audited s sf e) ∙ ap (λ (b : Bool). heldAfter t b st cs) none
+    let none : marksAt t (filesOf st) ≡ [] = rw (start-files s e) in
+    let marks = run-marks t st cs cf (start-audited s sf e) ∙ ap (λ (ks : List ℕ). heldAfter t ks st cs) none in
+    record { marks = marks; kept = kept-marked t (filesOf (left s cs)) ∙ ap some marks }

@@ -30,7 +30,7 @@ length-file-in f (x ∷ xs) = by (length-file-in f xs) (ltb (x .entry .time) (f 
 
 module _ (R last : ℕ) (rs : List Rec) where
   from-later : {before b' : ℕ} {f : File} → FileIs R last rs before f → b' < f .entry .time → FileIs R last rs b' f
-  from-later h l = record { later = l; held = h .held; rows-are = h .rows-are; area-is = h .area-is }
+  from-later h l = record { later = l; held = h .held; rows-are = h .rows-are; area-is = h .area-is; mark-is = h .mark-is }
 
   pub files-with : (f : File) (before : ℕ) (fs : List File) → FileIs R last rs before f → isKept (f .entry .time) fs ≡ false → FilesAre R last rs before fs
       → FilesAre R last rs before (fileIn f fs)

@@ -1,8 +1,8 @@
--- Keep and drop of a state in order leave one in order, with a file more or with those that stay by a test. Assumes nothing.
+-- Keep, drop and drop by mark of a state in order leave one in order, with a file more or with those that stay by a test. Assumes nothing.
 use Prim.Native.Nat.{ℕ, zero, suc, _+_, _-_, _*_, _≤_, _<_}
 use mathlib.Core.Path.{_≡_, refl, _∙_}
 use mathlib.Core.List.{List, [], _∷_, _++_, append-nil, map}
-use mathlib.Core.Bool.{Bool, false, not, _&&_}
+use mathlib.Core.Bool.{Bool, true, false, not, _&&_}
 use native.Mathlib.Omega.{arith}
 use native.Mathlib.Nat.{min-le-left, le-trans, le-div-iff-mul-le, mul-comm, mul-le-mul-right}
 use lib.ListN.{length, take, replicate, length-append, length-map, length-replicate}
@@ -14,8 +14,9 @@ use Rattle.codec.proofs.PartLaws.{length-put}
 use Rattle.model.specs.declared.Entry.{Entry}
 use Rattle.model.specs.Answers.{question, firstNo}
 use Rattle.model.specs.Records.{headerBytes}
+use Rattle.model.specs.Marks.{isMark}
 use Rattle.model.specs.Memory.{State, state, logOf, sound, capacity, capacityOf}
-use Rattle.model.specs.Files.{File, filesOf, noFile, areasBytes, entryOf, withFiles, withCount, isKept, keepQuestions, fileIn, fileAt, keepOf, staying, reduced, notOf, dropQuestions, dropOf}
+use Rattle.model.specs.Files.{File, filesOf, noFile, areasBytes, entryOf, withFiles, withCount, isKept, keepQuestions, fileIn, fileAt, keepOf, staying, reduced, notOf, dropQuestions, dropOf, notMarked, dropMarkedQuestions, dropMarkedOf}
 use Rattle.model.proofs.Compare.{and-left, and-right}
 use Rattle.model.specs.Facts.{FileIs, FilesAre, AuditedFacts, InOrder}
 use Rattle.model.proofs.AuditLaws.{audited-facts, audited-of-facts, capacity-entries, capacity-areas}
@@ -130,8 +131,9 @@ module _ (st : State) (o : InOrder st) (gs : List File) (j : ℕ)
           log-bytes = l .log-bytes;
           index-words = l .index-words;
           table-bytes = l .table-bytes;
-          entry-times = entries .times-fit;
-          entry-rows = entries .rows-fit;
+          entry-times = λ i. entries .each i .time-fits;
+          entry-rows = λ i. entries .each i .rows-fit;
+          entry-marks = λ i. entries .each i .mark-fits;
           area-bytes = are-bytes-put (st .memory .areas) 0 (areasBytes all) (l .area-bytes) (bytes-of-files R all all-fit);
         };
         passable = record {
@@ -147,52 +149,57 @@ module _ (st : State) (o : InOrder st) (gs : List File) (j : ℕ)
 
 -- ---- keep
 
--- the file of time t is one of the log's
-pub file-at-is : (st : State) (t before : ℕ) → before < t → t ≤ st .numbers .last → FileIs (st .numbers .limit) (st .numbers .last) (logOf st) before (fileAt st t)
-file-at-is st t before h l = record { later = h; held = l; rows-are = refl; area-is = refl }
+-- the file of time t and a mark is one of the log's
+pub file-at-is : (st : State) (t k before : ℕ) → before < t → t ≤ st .numbers .last → isMark k ≡ true
+    → FileIs (st .numbers .limit) (st .numbers .last) (logOf st) before (fileAt st t k)
+file-at-is st t k before h l m = record { later = h; held = l; rows-are = refl; area-is = refl; mark-is = m }
 
 -- what keep's questions say
-pub record KeepAsked (st : State) (t : ℕ) : Type 0 where
+pub record KeepAsked (st : State) (t k : ℕ) : Type 0 where
   pub held : t ≤ st .numbers .last
+  pub is-mark : isMark k ≡ true
   pub positive : 0 < t
   pub not-kept : isKept t (filesOf st) ≡ false
   pub room : st .numbers .files < capacityOf (st .numbers .limit) (st .memory)
 
-pub keep-asked : (st : State) (t : ℕ) → firstNo (keepQuestions st t) ≡ 0 → KeepAsked st t
-keep-asked st t q =
+pub keep-asked : (st : State) (t k : ℕ) → firstNo (keepQuestions st t k) ≡ 0 → KeepAsked st t k
+keep-asked st t k q =
     let held = leb t (st .numbers .last) in
+    let mark = isMark k in
     let some = not (eqb t 0) in
     let free = not (isKept t (filesOf st)) in
     let room = ltb (st .numbers .files) (capacityOf (st .numbers .limit) (st .memory)) in
-    let q1 = asked 0 (sound st) (question 12 held ∷ question 14 (some && free) ∷ question 15 room ∷ []) q in
-    let q12 = asked 11 held (question 14 (some && free) ∷ question 15 room ∷ []) (q1 .1) in
-    let q14 = asked 13 (some && free) (question 15 room ∷ []) (q12 .1) in
+    let q1 = asked 0 (sound st) (question 12 held ∷ question 18 mark ∷ question 14 (some && free) ∷ question 15 room ∷ []) q in
+    let q12 = asked 11 held (question 18 mark ∷ question 14 (some && free) ∷ question 15 room ∷ []) (q1 .1) in
+    let q18 = asked 17 mark (question 14 (some && free) ∷ question 15 room ∷ []) (q12 .1) in
+    let q14 = asked 13 (some && free) (question 15 room ∷ []) (q18 .1) in
     let q15 = asked 14 room [] (q14 .1) in
     record {
       held = leb-true _ _ (q12 .0);
+      is-mark = q18 .0;
       positive = above t (eqb-false t 0 (not-true (eqb t 0) (and-left some free (q14 .0))));
       not-kept = not-true (isKept t (filesOf st)) (and-right some free (q14 .0));
       room = ltb-true _ _ (q15 .0);
     }
   where
-    above : (k : ℕ) → (k ≡ 0 → ⊥) → 0 < k
+    above : (u : ℕ) → (u ≡ 0 → ⊥) → 0 < u
     above zero h = absurd (h refl)
-    above (suc k) h = omega arith
+    above (suc u) h = omega arith
 
 -- an accepted keep of it: the state, and the files that it holds
-module _ (st : State) (o : InOrder st) (t : ℕ) (h : KeepAsked st t) where
+module _ (st : State) (o : InOrder st) (t k : ℕ) (h : KeepAsked st t k) where
   abbrev files : List File
-  files = fileIn (fileAt st t) (filesOf st)
+  files = fileIn (fileAt st t k) (filesOf st)
 
   abbrev kept : State
   kept = state (withCount (st .numbers) (st .numbers .files + 1)) (withFiles files (st .memory))
 
   one-more : length files ≡ st .numbers .files + 1
-  one-more = length-file-in (fileAt st t) (filesOf st) ∙ omega (arith, length-files st (audited-facts st (o .audited)))
+  one-more = length-file-in (fileAt st t k) (filesOf st) ∙ omega (arith, length-files st (audited-facts st (o .audited)))
 
   files-are : FilesAre (st .numbers .limit) (st .numbers .last) (logOf st) 0 files
   files-are =
-      files-with (st .numbers .limit) (st .numbers .last) (logOf st) (fileAt st t) 0 (filesOf st) (file-at-is st t 0 (h .positive) (h .held)) (h .not-kept)
+      files-with (st .numbers .limit) (st .numbers .last) (logOf st) (fileAt st t k) 0 (filesOf st) (file-at-is st t k 0 (h .positive) (h .held) (h .is-mark)) (h .not-kept)
       (audited-facts st (o .audited) .files-are)
 
   pub kept-in-order : InOrder kept
@@ -205,11 +212,11 @@ module _ (st : State) (o : InOrder st) (t : ℕ) (h : KeepAsked st t) where
   pub kept-lengths : SameLengths (st .memory) (kept .memory)
   kept-lengths = rw (append-nil files) at (files-lengths st o files 0 files-are (omega (arith, one-more)) (omega (arith, one-more, h .room)))
 
-pub keep-audited : (st : State) (t : ℕ) → InOrder st → InOrder (keepOf st t .state)
+pub keep-audited : (st : State) (t k : ℕ) → InOrder st → InOrder (keepOf st t k .state)
 unfolding keepOf
-keep-audited st t o = either-left (λ x. InOrder x) (firstNo (keepQuestions st t)) st _ o (λ q. kept-in-order st o t (keep-asked st t q))
+keep-audited st t k o = either-left (λ x. InOrder x) tt (firstNo (keepQuestions st t k)) st _ o (λ q. kept-in-order st o t k (keep-asked st t k q))
 
--- ---- drop
+-- ---- drop and drop by mark
 
 -- whatever the test
 module _ (stays : Entry → Bool) (st : State) (o : InOrder st) where
@@ -239,4 +246,8 @@ module _ (stays : Entry → Bool) (st : State) (o : InOrder st) where
 
 pub drop-audited : (st : State) (t : ℕ) → InOrder st → InOrder (dropOf st t .state)
 unfolding dropOf
-drop-audited st t o = either-left (λ x. InOrder x) (firstNo (dropQuestions st t)) st _ o (λ q. reduced-in-order (notOf t) st o)
+drop-audited st t o = either-left (λ x. InOrder x) tt (firstNo (dropQuestions st t)) st _ o (λ q. reduced-in-order (notOf t) st o)
+
+pub drop-marked-audited : (st : State) (k : ℕ) → InOrder st → InOrder (dropMarkedOf st k .state)
+unfolding dropMarkedOf
+drop-marked-audited st k o = either-left (λ x. InOrder x) _ (firstNo (dropMarkedQuestions st k)) st _ o (λ q. reduced-in-order (notMarked k) st o)

@@ -8,6 +8,7 @@ use Rattle.model.specs.Starts.{after}
 use Rattle.model.specs.Changes.{unchanged}
 
 -- what holds of the state that stood, and of the new one where no question is answered no, holds of the one left
-pub either-left : (P : State → Type 0) (q : ℕ) (st done : State) → P st → (q ≡ 0 → P done) → P (unlessNo q (after (answers tt) done) (unchanged st) .state)
-either-left P zero st done stood new = new refl
-either-left P (suc q) st done stood new = stood
+pub either-left : {A : Type 0} (P : State → Type 0) (x : A) (q : ℕ) (st done : State) → P st → (q ≡ 0 → P done)
+    → P (unlessNo q (after (answers x) done) (unchanged st) .state)
+either-left P x zero st done stood new = new refl
+either-left P x (suc q) st done stood new = stood

@@ -7,7 +7,7 @@ use Rattle.model.specs.Answers.{answers, firstNo}
 use Rattle.model.specs.Records.{Rec}
 use Rattle.model.specs.Memory.{Memory, State, state}
 use Rattle.model.specs.Changes.{appended}
-use Rattle.model.specs.Files.{keepQuestions, keepOf, notOf, dropQuestions, dropOf}
+use Rattle.model.specs.Files.{keepQuestions, keepOf, notOf, dropQuestions, dropOf, notMarked, dropMarkedQuestions, dropMarkedOf}
 use Rattle.model.specs.Facts.{InOrder}
 use Rattle.model.specs.Calls.{Start, StartFits, begun, Call, CallFits, AllFit, step, run, Accepted}
 use Rattle.model.specs.Demands.{left}
@@ -70,14 +70,19 @@ module _ (d N R : ℕ) (l : Lengths) where
     unfolding appended
     appended-served t new g = still-served _ _ _ _ _ (appended-lengths st t new o g)
 
-    keep-served : (t : ℕ) → Served (keepOf st t .state)
+    keep-served : (t k : ℕ) → Served (keepOf st t k .state)
     unfolding keepOf
-    keep-served t =
-        either-left (λ x. Served x) (firstNo (keepQuestions st t)) st _ h (λ q. still-served _ _ _ _ _ (kept-lengths st o t (keep-asked st t q)))
+    keep-served t k =
+        either-left (λ x. Served x) tt (firstNo (keepQuestions st t k)) st _ h (λ q. still-served _ _ _ _ _ (kept-lengths st o t k (keep-asked st t k q)))
 
     drop-served : (t : ℕ) → Served (dropOf st t .state)
     unfolding dropOf
-    drop-served t = either-left (λ x. Served x) (firstNo (dropQuestions st t)) st _ h (λ q. still-served _ _ _ _ _ (reduced-lengths (notOf t) st o))
+    drop-served t = either-left (λ x. Served x) tt (firstNo (dropQuestions st t)) st _ h (λ q. still-served _ _ _ _ _ (reduced-lengths (notOf t) st o))
+
+    drop-marked-served : (k : ℕ) → Served (dropMarkedOf st k .state)
+    unfolding dropMarkedOf
+    drop-marked-served k =
+        either-left (λ x. Served x) _ (firstNo (dropMarkedQuestions st k)) st _ h (λ q. still-served _ _ _ _ _ (reduced-lengths (notMarked k) st o))
 
     step-served : (c : Call) → CallFits c → Served (step st c)
     unfolding step
@@ -90,8 +95,9 @@ module _ (d N R : ℕ) (l : Lengths) where
     step-served (Call.netChange a b out work) f = h
     step-served (Call.units t) f = h
     step-served (Call.difference a b) f = h
-    step-served (Call.keep t) f = keep-served t
+    step-served (Call.keep t k) f = keep-served t k
     step-served (Call.drop t) f = drop-served t
+    step-served (Call.dropMarked k) f = drop-marked-served k
     step-served Call.audit f = h
 
   -- ---- a list of calls

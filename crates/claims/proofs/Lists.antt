@@ -7,7 +7,7 @@ use Rattle.model.specs.Demands.{AfterEveryList, StaysAudited, SecondDemand}
 use Rattle.model.specs.Facts.{InOrder}
 use Rattle.claims.proofs.Opened.{start-audited}
 use Rattle.claims.proofs.Changed.{insert-audited, delete-audited, update-audited}
-use Rattle.claims.proofs.Kept.{keep-audited, drop-audited}
+use Rattle.claims.proofs.Kept.{keep-audited, drop-audited, drop-marked-audited}
 use Rattle.claims.proofs.SecondDemands.{demand-two}
 
 -- one call, accepted or refused
@@ -22,8 +22,9 @@ step-in-order st (Call.view t) f o = o
 step-in-order st (Call.netChange a b out work) f o = o
 step-in-order st (Call.units t) f o = o
 step-in-order st (Call.difference a b) f o = o
-step-in-order st (Call.keep t) f o = keep-audited st t o
+step-in-order st (Call.keep t k) f o = keep-audited st t k o
 step-in-order st (Call.drop t) f o = drop-audited st t o
+step-in-order st (Call.dropMarked k) f o = drop-marked-audited st k o
 step-in-order st Call.audit f o = o
 
 pub run-in-order : (st : State) (cs : List Call) → AllFit cs → InOrder st → InOrder (run st cs)
@@ -49,5 +50,6 @@ reachable-in-order (Reachable.started s f e) = start-audited s f e
 reachable-in-order (Reachable.inserted t a c r f e) = insert-audited _ t a c (reachable-in-order r) f
 reachable-in-order (Reachable.deleted t a r f e) = delete-audited _ t a (reachable-in-order r) f
 reachable-in-order (Reachable.updated t a c r f e) = update-audited _ t a c (reachable-in-order r) f
-reachable-in-order (Reachable.kept t r f e) = keep-audited _ t (reachable-in-order r)
+reachable-in-order (Reachable.kept t k r f e) = keep-audited _ t k (reachable-in-order r)
 reachable-in-order (Reachable.dropped t r f e) = drop-audited _ t (reachable-in-order r)
+reachable-in-order (Reachable.markedDropped k n r f e) = drop-marked-audited _ k (reachable-in-order r)

@@ -7,12 +7,12 @@ use lib.IntN.{ℤ}
 use Rattle.model.specs.declared.Position.{Position}
 use Rattle.model.specs.Answers.{Outcome, TableSaid}
 use Rattle.model.specs.Memory.{State}
-use Rattle.model.specs.Starts.{After, after}
+use Rattle.model.specs.Starts.{Result, After, after}
 use Rattle.model.specs.Queries.{Written, Netted, tableOf}
 use Rattle.model.specs.Audit.{Audited}
 use Rattle.model.specs.Units.{UnitsTell, DifferenceTells}
 use Rattle.model.specs.Facts.{InOrder}
-use Rattle.model.specs.Calls.{Start, StartFits, begun, Call, AllFit, Said, changed, positioned, written, viewed, netted, totalled, differed, audited, answerOf, step, run, Accepted}
+use Rattle.model.specs.Calls.{Start, StartFits, begun, Call, AllFit, Said, changed, positioned, written, viewed, netted, totalled, differed, cleared, audited, answerOf, step, run, Accepted}
 use Rattle.model.specs.Chains.{Carried, Ran, RanFrom}
 use Rattle.model.specs.Demands.{left, PositionTells, TableIsTimeslice, NetChangeIs, OutsetIsNearest, AnswersOf, CodeKeeps, CodeSameTables}
 use Rattle.claims.proofs.Opened.{start-audited}
@@ -26,22 +26,23 @@ use Rattle.claims.proofs.Units.{units-tell, difference-tells}
 -- ---- one call
 
 -- a call that may change the store
-made : {o : Outcome Unit} {st' : State} {x : After} → after o st' ≡ x → (changed o ≡ changed (x .outcome)) × (st' ≡ x .state)
-made e = (ap (λ (y : After). changed (y .outcome)) e, ap (λ (y : After). y .state) e)
+made : {A : Type 0} (said : Outcome A → Said) {o : Outcome A} {st' : State} {x : Result A} → after o st' ≡ x → (said o ≡ said (x .outcome)) × (st' ≡ x .state)
+made said e = (ap (λ y. said (y .outcome)) e, ap (λ y. y .state) e)
 
 pub carried-is : {st : State} {c : Call} {said : Said} {st' : State} → Audited st → Carried st c said st' → (said ≡ answerOf st c) × (st' ≡ step st c)
 unfolding answerOf step
-carried-is ok (Carried.insert t a c p) = made (p .audited ok)
-carried-is ok (Carried.delete t a p) = made (p .audited ok)
-carried-is ok (Carried.update t a c p) = made (p .audited ok)
+carried-is ok (Carried.insert t a c p) = made changed (p .audited ok)
+carried-is ok (Carried.delete t a p) = made changed (p .audited ok)
+carried-is ok (Carried.update t a c p) = made changed (p .audited ok)
 carried-is ok (Carried.position t p) = (ap positioned (p .audited ok), refl)
 carried-is ok (Carried.table t out p) = (ap written (p .audited ok), refl)
 carried-is ok (Carried.view t p) = (ap viewed (p .audited ok), refl)
 carried-is ok (Carried.netChange a b out work p) = (ap netted (p .audited ok), refl)
 carried-is ok (Carried.units t p) = (ap totalled (p .audited ok), refl)
 carried-is ok (Carried.difference a b p) = (ap differed (p .audited ok), refl)
-carried-is ok (Carried.keep t p) = made (p .audited ok)
-carried-is ok (Carried.drop t p) = made (p .audited ok)
+carried-is ok (Carried.keep t k p) = made changed (p .audited ok)
+carried-is ok (Carried.drop t p) = made changed (p .audited ok)
+carried-is ok (Carried.dropMarked k p) = made cleared (p .audited ok)
 carried-is ok (Carried.audit e) = (ap audited e, refl)
 
 -- ---- calls one after the other

@@ -189,8 +189,9 @@ module _ (m : Memory) where
             index-words = below-with-tree (2 ^ 64) (omega arith) order (pageTimes page (writtenLog m)) (m .index)
                 (keys-below page 0 (writtenLog m) (all-fit-records (drop 24 (m .log)) count (are-bytes-drop 24 (m .log) bytes))) (l .index-words);
             table-bytes = are-bytes-put (m .table) 0 (tableBytes limit rows) (l .table-bytes) (are-bytes-table limit rows);
-            entry-times = emptied-fits limit m l .times-fit;
-            entry-rows = emptied-fits limit m l .rows-fit;
+            entry-times = λ i. emptied-fits limit m l .each i .time-fits;
+            entry-rows = λ i. emptied-fits limit m l .each i .rows-fit;
+            entry-marks = λ i. emptied-fits limit m l .each i .mark-fits;
             area-bytes = l .area-bytes;
           };
           passable = record {

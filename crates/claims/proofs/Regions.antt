@@ -63,36 +63,40 @@ tree-again d keys index two room =
 
 -- ---- the catalogue
 
--- a list of entries of their types
+-- an entry of its types
+pub record EntryFits (e : Entry) : Type 0 where
+  pub time-fits : e .time < 2 ^ 64
+  pub rows-fit : e .rows < 2 ^ 32
+  pub mark-fits : e .mark < 2 ^ 32
+
+pub no-entry-fits : EntryFits noEntry
+no-entry-fits = record { time-fits = omega arith; rows-fit = omega arith; mark-fits = omega arith }
+
+-- and a list of such
 pub record EntriesFit (es : List Entry) : Type 0 where
-  pub times-fit : (i : ℕ) → getD es i noEntry .time < 2 ^ 64
-  pub rows-fit : (i : ℕ) → getD es i noEntry .rows < 2 ^ 32
+  pub each : (i : ℕ) → EntryFits (getD es i noEntry)
 
 pub entries-nil : EntriesFit []
-entries-nil = record { times-fit = λ i. omega arith; rows-fit = λ i. omega arith }
+entries-nil = record { each = λ i. no-entry-fits }
 
-pub entries-cons : (e : Entry) (es : List Entry) → e .time < 2 ^ 64 → e .rows < 2 ^ 32 → EntriesFit es → EntriesFit (e ∷ es)
-entries-cons e es t r f = record { times-fit = times; rows-fit = rows }
+pub entries-cons : (e : Entry) (es : List Entry) → EntryFits e → EntriesFit es → EntriesFit (e ∷ es)
+entries-cons e es h f = record { each = at }
   where
-    times : (i : ℕ) → getD (e ∷ es) i noEntry .time < 2 ^ 64
-    times zero = t
-    times (suc i) = f .times-fit i
-
-    rows : (i : ℕ) → getD (e ∷ es) i noEntry .rows < 2 ^ 32
-    rows zero = r
-    rows (suc i) = f .rows-fit i
+    at : (i : ℕ) → EntryFits (getD (e ∷ es) i noEntry)
+    at zero = h
+    at (suc i) = f .each i
 
 pub entries-tail : (e : Entry) (es : List Entry) → EntriesFit (e ∷ es) → EntriesFit es
-entries-tail e es f = record { times-fit = λ i. f .times-fit (suc i); rows-fit = λ i. f .rows-fit (suc i) }
+entries-tail e es f = record { each = λ i. f .each (suc i) }
 
 pub entries-append : (es fs : List Entry) → EntriesFit es → EntriesFit fs → EntriesFit (es ++ fs)
 entries-append [] fs f g = g
-entries-append (e ∷ es) fs f g = entries-cons e (es ++ fs) (f .times-fit 0) (f .rows-fit 0) (entries-append es fs (entries-tail e es f) g)
+entries-append (e ∷ es) fs f g = entries-cons e (es ++ fs) (f .each 0) (entries-append es fs (entries-tail e es f) g)
 
 pub entries-take : (n : ℕ) (es : List Entry) → EntriesFit es → EntriesFit (take n es)
 entries-take zero es f = entries-nil
 entries-take (suc n) [] f = entries-nil
-entries-take (suc n) (e ∷ es) f = entries-cons e (take n es) (f .times-fit 0) (f .rows-fit 0) (entries-take n es (entries-tail e es f))
+entries-take (suc n) (e ∷ es) f = entries-cons e (take n es) (f .each 0) (entries-take n es (entries-tail e es f))
 
 pub entries-drop : (n : ℕ) (es : List Entry) → EntriesFit es → EntriesFit (drop n es)
 entries-drop zero es f = f
@@ -106,10 +110,11 @@ entries-put es at new f g =
 
 pub entries-none : (n : ℕ) → EntriesFit (replicate n noEntry)
 entries-none zero = entries-nil
-entries-none (suc n) = entries-cons noEntry (replicate n noEntry) (omega arith) (omega arith) (entries-none n)
+entries-none (suc n) = entries-cons noEntry (replicate n noEntry) no-entry-fits (entries-none n)
 
 pub entries-of-lendable : (m : Memory) → Lendable m → EntriesFit (m .catalogue)
-entries-of-lendable m l = record { times-fit = l .entry-times; rows-fit = l .entry-rows }
+entries-of-lendable m l =
+    record { each = λ i. record { time-fits = l .entry-times i; rows-fit = l .entry-rows i; mark-fits = l .entry-marks i } }
 
 module _ (R : ℕ) (m : Memory) where
   pub length-emptied : length (emptied R m) ≡ length (m .catalogue)

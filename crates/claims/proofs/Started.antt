@@ -123,8 +123,9 @@ module _ (d N R : ℕ) (m : Memory) where
             log-bytes = are-bytes-put (m .log) 0 (headerBytes (freshNumbers d N R)) (l .log-bytes) (are-bytes-header (freshNumbers d N R));
             index-words = l .index-words;
             table-bytes = are-bytes-put (m .table) 0 (zeros (8 * R)) (l .table-bytes) (are-bytes-zeros (8 * R));
-            entry-times = emptied-fits R m l .times-fit;
-            entry-rows = emptied-fits R m l .rows-fit;
+            entry-times = λ i. emptied-fits R m l .each i .time-fits;
+            entry-rows = λ i. emptied-fits R m l .each i .rows-fit;
+            entry-marks = λ i. emptied-fits R m l .each i .mark-fits;
             area-bytes = l .area-bytes;
           };
           passable = record { order-fits = df; page-fits = nf; limit-fits = rf; records-fit = omega arith; last-fits = omega arith; live-fits = omega arith; files-fit = omega arith };

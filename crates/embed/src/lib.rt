@@ -5,16 +5,17 @@ ghost use mathlib.Core.List.{List};
 ghost use Prim.Native.Nat.{ℕ, _+_, _*_};
 ghost use Rattle.model.specs.Starts.{freshOf, openOf};
 ghost use Rattle.model.specs.Changes.{insertOf, deleteOf, updateOf};
-ghost use Rattle.model.specs.Files.{keepOf, dropOf};
+ghost use Rattle.model.specs.Files.{keepOf, dropOf, dropMarkedOf};
 ghost use Rattle.model.specs.Audit.{auditOf};
 ghost use Rattle.numbered.specs.Lent.{memoryOf, memoryLent};
-ghost use Rattle.numbered.specs.Crossed.{StartCrossed, AppendCrossed, PositionCrossed, TableCrossed, ViewCrossed, NetChangeCrossed, UnitsCrossed, DifferenceCrossed, FilesCrossed, LengthsCrossed};
+ghost use Rattle.numbered.specs.Crossed.{StartCrossed, AppendCrossed, PositionCrossed, TableCrossed, ViewCrossed, NetChangeCrossed, UnitsCrossed, DifferenceCrossed, FilesCrossed, DropMarkedCrossed, LengthsCrossed};
 ghost use Rattle.numbered.specs.Answers.{yesOut};
 ghost use Rattle.embed.specs.Regions.{asLent, asLeft};
 use model::Entry;
 use model::Numbers;
 use numbered::answer::YkChange;
 use numbered::answer::YkDifference;
+use numbered::answer::YkDropMarked;
 use numbered::answer::YkNetChange;
 use numbered::answer::YkPosition;
 use numbered::answer::YkTable;
@@ -22,13 +23,13 @@ use numbered::answer::YkUnits;
 use numbered::needed::YkLengths;
 use numbered::outset::YkView;
 
-// 0.4.0, as the header and the Rust crate have it: 65,536 × major + 256 × minor + patch.
-const VERSION: u32 = 1024;
+// 0.5.0, as the header and the Rust crate have it: 65,536 × major + 256 × minor + patch.
+const VERSION: u32 = 1280;
 
 // The version of the archive.
 #[no_mangle]
 pub extern "C" fn yk_version() -> u32
-    ensures { λ r. ⌜ r ≡ 0 * 65536 + 4 * 256 + 0 ⌝ }
+    ensures { λ r. ⌜ r ≡ 0 * 65536 + 5 * 256 + 0 ⌝ }
 {
     VERSION
 }
@@ -292,12 +293,13 @@ pub extern "C" fn yk_keep(
     entries: &mut [Entry],
     areas: &mut [u8],
     t: u64,
+    mark: u32,
 ) -> YkChange
     ensures { λ r. ⌜ FilesCrossed (s .files + 1) r (asLent s log index current entries areas) (asLeft log index current entries areas)
-        (keepOf (asLent s log index current entries areas) t) ⌝ }
+        (keepOf (asLent s log index current entries areas) t mark) ⌝ }
 {
     let c = entries::load(entries);
-    let r = numbered::keep(s, log, index, current, c, areas, t);
+    let r = numbered::keep(s, log, index, current, c, areas, t, mark);
     entries::save(entries, r.catalogue);
     numbered::answer::refiled_change(r)
 }
@@ -319,6 +321,25 @@ pub extern "C" fn yk_drop(
     let r = numbered::drop(s, log, index, current, c, areas, t);
     entries::save(entries, r.catalogue);
     numbered::answer::refiled_change(r)
+}
+
+#[no_mangle]
+pub extern "C" fn yk_drop_marked(
+    s: Numbers,
+    log: &[u8],
+    index: &[u64],
+    current: &[u8],
+    entries: &mut [Entry],
+    areas: &mut [u8],
+    mark: u32,
+) -> YkDropMarked
+    ensures { λ r. ⌜ DropMarkedCrossed (s .files) r (asLent s log index current entries areas) (asLeft log index current entries areas)
+        (dropMarkedOf (asLent s log index current entries areas) mark) ⌝ }
+{
+    let c = entries::load(entries);
+    let r = numbered::drop_marked(s, log, index, current, c, areas, mark);
+    entries::save(entries, r.catalogue);
+    numbered::answer::cleared_answer(r)
 }
 
 #[no_mangle]

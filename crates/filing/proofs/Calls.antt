@@ -1,33 +1,32 @@
--- The promises of keep and drop, from the answers to the questions and what the code says on any memory: one law for each
+-- The promises of keep, drop and drop by mark, from the answers to the questions and what the code says on any memory: one law for each
 -- return. Assumes nothing.
-use Prim.Native.Nat.{ℕ, suc, _+_, _*_, _≤_, _<_}
+use Prim.Native.Nat.{ℕ, suc, _+_, _-_, _*_, _≤_, _<_}
 use mathlib.Core.Path.{_≡_, refl, sym, ap, _∙_}
-use mathlib.Core.List.{List, [], map}
+use mathlib.Core.List.{List, []}
 use mathlib.Core.Bool.{Bool, true, false, not}
 use native.Mathlib.Omega.{arith}
-use lib.ListN.{length, take, length-map}
-use lib.Seq.{length-take-le}
+use lib.ListN.{length, take}
 use lib.Dec.{eqb}
 use borrow.Author.Tests.{le-leb, lt-leb, lt-ltb, le-ltb, eq-eqb, ne-eqb}
-use Rattle.codec.specs.Parts.{put}
 use Rattle.model.specs.declared.Numbers.{Numbers}
 use Rattle.model.specs.declared.Entry.{Entry}
 use Rattle.model.specs.Answers.{refuses, answers, firstNo}
-use Rattle.model.specs.Memory.{State, state, sound, fits, capacity}
-use Rattle.model.specs.Starts.{After, after}
-use Rattle.model.specs.Files.{File, filesOf, areasBytes, entryOf, withFiles, withCount, isKept, keepOf, staying, closedUp, notOf, dropOf}
+use Rattle.model.specs.Marks.{goes, isMark}
+use Rattle.model.specs.Memory.{State, sound, fits, capacity}
+use Rattle.model.specs.Starts.{Result, after}
+use Rattle.model.specs.Files.{File, filesOf, withCount, isKept, keepOf, staying, reduced, notOf, dropOf, isMarked, notMarked, dropMarkedOf}
 use Rattle.model.specs.Promises.{storeOf, isRefused, FilesPromise}
 use Rattle.model.proofs.PromiseLaws.{asked-refused, asked-answered, not-refused, beyond-same}
-use Rattle.model.proofs.FileLaws.{length-files-in, Whole, whole-files-in, whole-staying, whole-closed-up, length-staying, length-closed-up, files-frame}
+use Rattle.model.proofs.FileLaws.{length-going}
 use Rattle.catalogue.specs.declared.Catalogue.{Catalogue}
 use Rattle.catalogue.specs.declared.Left.{Left}
 use Rattle.catalogue.specs.Files.{byValue, writtenBack}
-use Rattle.catalogue.specs.Entries.{timeKept, entriesStaying, withEntries, entriesClosed}
+use Rattle.catalogue.specs.Entries.{timeKept}
 use Rattle.catalogue.proofs.EntryLaws.{front-by-value, written-back}
 use Rattle.limits.specs.Fit.{Fit}
-use Rattle.areas.specs.Moved.{areasClosed}
-use Rattle.filing.specs.Filing.{Keeping}
-use Rattle.filing.proofs.FileEntries.{kept-is, entries-closed, count-staying}
+use Rattle.filing.specs.Filing.{Keeping, LetGo}
+use Rattle.filing.proofs.FileEntries.{kept-is}
+use Rattle.filing.proofs.Letting.{all-files, reduced-framed}
 
 module _ (s : Numbers) (log index table : List ℕ) (catalogue : List Entry) (areas : List ℕ) (c : Catalogue) (same : c ≡ byValue catalogue) where
   abbrev st : State
@@ -46,7 +45,7 @@ module _ (s : Numbers) (log index table : List ℕ) (catalogue : List Entry) (ar
 
   -- ---- refusals
 
-  refuses-promise : (files k : ℕ) (defined : After) → eqb (suc k) 1 ≡ not (sound st) → eqb (suc k) 17 ≡ false
+  refuses-promise : {A : Type 0} (files k : ℕ) (defined : Result A) → eqb (suc k) 1 ≡ not (sound st) → eqb (suc k) 17 ≡ false
       → defined ≡ after (refuses (suc k)) st → FilesPromise files st (refuses (suc k)) unmoved defined
   refuses-promise files k defined q n is =
       rw unmoved-same
@@ -63,10 +62,14 @@ module _ (s : Numbers) (log index table : List ℕ) (catalogue : List Entry) (ar
         audited = λ ok. sym is;
       })
 
-  pub keep-header : (t : ℕ) → fits s log (length index) (length table) (c .lent) (length areas) ≡ false
-      → FilesPromise (s .files + 1) st (refuses 1) unmoved (keepOf st t)
+  pub keep-header : (t k : ℕ) → fits s log (length index) (length table) (c .lent) (length areas) ≡ false
+      → FilesPromise (s .files + 1) st (refuses 1) unmoved (keepOf st t k)
   unfolding keepOf firstNo
-  keep-header t fails = let q = sound-is false fails in refuses-promise (s .files + 1) 0 (keepOf st t) (rw q) refl (rw q)
+  keep-header t k fails = let q = sound-is false fails in refuses-promise (s .files + 1) 0 (keepOf st t k) (rw q) refl (rw q)
+
+  pub marked-header : (k : ℕ) → fits s log (length index) (length table) (c .lent) (length areas) ≡ false → FilesPromise (s .files) st (refuses 1) unmoved (dropMarkedOf st k)
+  unfolding dropMarkedOf firstNo
+  marked-header k fails = let q = sound-is false fails in refuses-promise (s .files) 0 (dropMarkedOf st k) (rw q) refl (rw q)
 
   pub drop-header : (t : ℕ) → fits s log (length index) (length table) (c .lent) (length areas) ≡ false → FilesPromise (s .files) st (refuses 1) unmoved (dropOf st t)
   unfolding dropOf firstNo
@@ -93,36 +96,40 @@ module _ (s : Numbers) (log index table : List ℕ) (catalogue : List Entry) (ar
 
     -- ---- keep
 
-    pub keep-late : (t : ℕ) → s .last < t → FilesPromise (s .files + 1) st (refuses 12) unmoved (keepOf st t)
+    pub keep-late : (t k : ℕ) → s .last < t → FilesPromise (s .files + 1) st (refuses 12) unmoved (keepOf st t k)
     unfolding keepOf firstNo
-    keep-late t h = refuses-promise (s .files + 1) 11 (keepOf st t) (rw q1) refl (rw (q1, lt-leb _ _ h))
+    keep-late t k h = refuses-promise (s .files + 1) 11 (keepOf st t k) (rw q1) refl (rw (q1, lt-leb _ _ h))
 
-    pub keep-zero : (t : ℕ) → t ≤ s .last → t ≡ 0 → FilesPromise (s .files + 1) st (refuses 14) unmoved (keepOf st t)
+    pub keep-wrong-mark : (t k : ℕ) → t ≤ s .last → isMark k ≡ false → FilesPromise (s .files + 1) st (refuses 18) unmoved (keepOf st t k)
     unfolding keepOf firstNo
-    keep-zero t h z = refuses-promise (s .files + 1) 13 (keepOf st t) (rw q1) refl (rw (q1, le-leb _ _ h, eq-eqb _ _ z))
+    keep-wrong-mark t k h m = refuses-promise (s .files + 1) 17 (keepOf st t k) (rw q1) refl (rw (q1, le-leb _ _ h, m))
 
-    module _ (t : ℕ) (h : t ≤ s .last) (some : t ≡ 0 → ⊥) where
-      pub keep-twice : timeKept t (take (s .files) (c .entries)) ≡ true → FilesPromise (s .files + 1) st (refuses 14) unmoved (keepOf st t)
+    pub keep-zero : (t k : ℕ) → t ≤ s .last → isMark k ≡ true → t ≡ 0 → FilesPromise (s .files + 1) st (refuses 14) unmoved (keepOf st t k)
+    unfolding keepOf firstNo
+    keep-zero t k h m z = refuses-promise (s .files + 1) 13 (keepOf st t k) (rw q1) refl (rw (q1, le-leb _ _ h, m, eq-eqb _ _ z))
+
+    module _ (t k : ℕ) (h : t ≤ s .last) (m : isMark k ≡ true) (some : t ≡ 0 → ⊥) where
+      pub keep-twice : timeKept t (take (s .files) (c .entries)) ≡ true → FilesPromise (s .files + 1) st (refuses 14) unmoved (keepOf st t k)
       unfolding keepOf firstNo
-      keep-twice k =
-          refuses-promise (s .files + 1) 13 (keepOf st t) (rw q1) refl (rw (q1, le-leb _ _ h, ne-eqb _ _ some, kept-files t, k))
+      keep-twice held =
+          refuses-promise (s .files + 1) 13 (keepOf st t k) (rw q1) refl (rw (q1, le-leb _ _ h, m, ne-eqb _ _ some, kept-files t, held))
 
       pub keep-full : timeKept t (take (s .files) (c .entries)) ≡ false → capacity (s .limit) (c .lent) (length areas) ≤ s .files
-          → FilesPromise (s .files + 1) st (refuses 15) unmoved (keepOf st t)
+          → FilesPromise (s .files + 1) st (refuses 15) unmoved (keepOf st t k)
       unfolding keepOf firstNo
-      keep-full k full =
-          refuses-promise (s .files + 1) 14 (keepOf st t) (rw q1) refl
-          (rw (q1, le-leb _ _ h, ne-eqb _ _ some, kept-files t, k, le-ltb _ _ (rw lent at full)))
+      keep-full free full =
+          refuses-promise (s .files + 1) 14 (keepOf st t k) (rw q1) refl
+          (rw (q1, le-leb _ _ h, m, ne-eqb _ _ some, kept-files t, free, le-ltb _ _ (rw lent at full)))
 
       pub keep-accepts : timeKept t (take (s .files) (c .entries)) ≡ false → s .files < capacity (s .limit) (c .lent) (length areas)
-          → {st' : State} → Keeping st t st' → FilesPromise (s .files + 1) st (answers tt) st' (keepOf st t)
+          → {st' : State} → Keeping st t k st' → FilesPromise (s .files + 1) st (answers tt) st' (keepOf st t k)
       unfolding keepOf firstNo isRefused
-      keep-accepts k room {st'} keeping =
+      keep-accepts free room {st'} keeping =
           record {
             asked = asked-answered st tt q1;
             refused = λ r. not-refused r;
             framed = keeping .framed;
-            audited = λ ok. rw (q1, le-leb _ _ h, ne-eqb _ _ some, kept-files t, k, lt-ltb _ _ (rw lent at room)) (ap (after (answers tt)) (keeping .audited ok));
+            audited = λ ok. rw (q1, le-leb _ _ h, m, ne-eqb _ _ some, kept-files t, free, lt-ltb _ _ (rw lent at room)) (ap (after (answers tt)) (keeping .audited ok));
           }
 
     -- ---- drop
@@ -131,55 +138,42 @@ module _ (s : Numbers) (log index table : List ℕ) (catalogue : List Entry) (ar
     unfolding dropOf firstNo
     drop-none t k = refuses-promise (s .files) 15 (dropOf st t) (rw q1) refl (rw (q1, kept-files t, k))
 
-    pub drop-accepts : (t : ℕ) {s' : Numbers} (left : Left) {areas' : List ℕ} → timeKept t (take (s .files) (c .entries)) ≡ true
-        → left .catalogue ≡ withEntries c (entriesClosed (notOf t) (s .files) (c .entries))
-        → left .files ≡ length (entriesStaying (notOf t) (take (s .files) (c .entries)))
-        → areas' ≡ areasClosed (notOf t) (s .limit) (s .files) (c .entries) areas → s' ≡ withCount s (left .files)
-        → FilesPromise (s .files) st (answers tt) (storeOf s' log index table (writtenBack catalogue (left .catalogue)) areas') (dropOf st t)
-    unfolding dropOf firstNo isRefused
-    drop-accepts t {s'} left {areas'} k entries-are count-is areas-are numbers-are =
-        rw result
+    -- the store is reduced, whatever the call answers
+    let-go : {A : Type 0} (x : A) (stays : Entry → Bool) (left : Left) {s' : Numbers} {areas' : List ℕ} (defined : Result A)
+        → LetGo stays s c areas left areas' → s' ≡ withCount s (left .files) → after (answers x) (reduced stays st) ≡ defined
+        → FilesPromise (s .files) st (answers x) (storeOf s' log index table (writtenBack catalogue (left .catalogue)) areas') defined
+    unfolding isRefused
+    let-go x stays left defined gone numbers-are is =
+        rw (numbers-are, gone .is log index table catalogue same few)
         (record {
-          asked = asked-answered st tt q1;
+          asked = asked-answered st x q1;
           refused = λ r. not-refused r;
-          framed = files-frame st (withCount s (length stay)) (s .files) gs (length-closed-up R (s .files) stay stay-few) (whole-closed-up R (s .files) stay stay-whole) few (fit .areas-long);
-          audited = λ ok. rw (q1, kept-files t, k);
+          framed = reduced-framed stays s log index table catalogue areas few (fit .areas-long);
+          audited = λ ok. is;
         })
+
+    pub drop-accepts : (t : ℕ) (left : Left) {s' : Numbers} {areas' : List ℕ} → timeKept t (take (s .files) (c .entries)) ≡ true
+        → LetGo (notOf t) s c areas left areas' → s' ≡ withCount s (left .files)
+        → FilesPromise (s .files) st (answers tt) (storeOf s' log index table (writtenBack catalogue (left .catalogue)) areas') (dropOf st t)
+    unfolding dropOf firstNo
+    drop-accepts t left k gone numbers-are = let-go tt (notOf t) left (dropOf st t) gone numbers-are (rw (q1, kept-files t, k))
+
+    -- ---- drop by mark
+
+    pub marked-wrong : (k : ℕ) → goes k ≡ false → FilesPromise (s .files) st (refuses 18) unmoved (dropMarkedOf st k)
+    unfolding dropMarkedOf firstNo
+    marked-wrong k g = refuses-promise (s .files) 17 (dropMarkedOf st k) (rw q1) refl (rw (q1, g))
+
+    pub marked-accepts : (k : ℕ) (left : Left) {s' : Numbers} {areas' : List ℕ} (n : ℕ) → goes k ≡ true
+        → LetGo (notMarked k) s c areas left areas' → s' ≡ withCount s (left .files) → n ≡ s .files - left .files
+        → FilesPromise (s .files) st (answers n) (storeOf s' log index table (writtenBack catalogue (left .catalogue)) areas') (dropMarkedOf st k)
+    unfolding dropMarkedOf firstNo
+    marked-accepts k left n g gone numbers-are rest =
+        let-go n (notMarked k) left (dropMarkedOf st k) gone numbers-are (rw (q1, g) (ap (λ (m : ℕ). after (answers m) (reduced (notMarked k) st)) went))
       where
-        R : ℕ
-        R = s .limit
+        -- the number of files then
+        stay : left .files ≡ length (staying (notMarked k) fs)
+        stay = ap (λ (x : State). x .numbers .files) (gone .is log index table catalogue same few)
 
-        stay : List File
-        stay = staying (notOf t) fs
-
-        gs : List File
-        gs = closedUp R (s .files) stay
-
-        es : List Entry
-        es = take (s .files) catalogue
-
-        long : length es ≡ s .files
-        long = length-take-le (s .files) catalogue few
-
-        stay-few : length stay ≤ s .files
-        stay-few = omega (arith, length-staying (notOf t) fs, length-files-in R areas 0 es, long)
-
-        stay-whole : Whole R stay
-        stay-whole = let n : 0 + length es ≡ s .files = omega (arith, long) in whole-staying (notOf t) R fs (whole-files-in R areas 0 es (rw n (fit .areas-long)))
-
-        counted : left .files ≡ length stay
-        counted = rw front at count-is ∙ sym (count-staying R areas (notOf t) es)
-
-        gs-long : length (map entryOf gs) ≡ s .files
-        gs-long = length-map gs entryOf ∙ length-closed-up R (s .files) stay stay-few
-
-        catalogue-is : writtenBack catalogue (left .catalogue) ≡ put catalogue 0 (map entryOf gs)
-        catalogue-is =
-            rw (entries-are, front, ← entries-closed R areas (notOf t) (s .files) es, same)
-            (written-back catalogue (map entryOf gs) (length catalogue) (omega (arith, gs-long, fit .files-sixteen)) (omega (arith, gs-long, few)))
-
-        areas-is : areas' ≡ put areas 0 (areasBytes gs)
-        areas-is = rw front at areas-are
-
-        result : storeOf s' log index table (writtenBack catalogue (left .catalogue)) areas' ≡ state (withCount s (length stay)) (withFiles gs (st .memory))
-        result = rw (catalogue-is, areas-is, numbers-are, counted)
+        went : n ≡ length (staying (isMarked k) fs)
+        went = omega (arith, rest, stay, length-going (isMarked k) fs, all-files (notMarked k) s log index table catalogue areas few)

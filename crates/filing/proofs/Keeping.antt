@@ -81,7 +81,7 @@ module _ (R : ℕ) (areas : List ℕ) (es : List Entry) (f : File) where
 
 -- ---- of a state
 
-module _ (s : Numbers) (log index table : List ℕ) (catalogue : List Entry) (areas : List ℕ) (c : Catalogue) (same : c ≡ byValue catalogue) (t : ℕ) where
+module _ (s : Numbers) (log index table : List ℕ) (catalogue : List Entry) (areas : List ℕ) (c : Catalogue) (same : c ≡ byValue catalogue) (t k : ℕ) where
   abbrev st : State
   st = storeOf s log index table catalogue areas
 
@@ -93,21 +93,21 @@ module _ (s : Numbers) (log index table : List ℕ) (catalogue : List Entry) (ar
 
   -- the file as it was worked out
   abbrev made : ℕ → List ℕ → File
-  made rows ys = record { entry = record { time = t; rows = rows }; area = ys }
+  made rows ys = record { entry = record { time = t; rows = rows; mark = k }; area = ys }
 
   pub keeping-of : (w : Worked) {ys : List ℕ} (at : ℕ) {r : Catalogue} {areas' : List ℕ} → s .files < 16 → s .files < length catalogue
       → 8 * s .limit * (s .files + 1) ≤ length areas → length ys ≡ 8 * s .limit
       → WorkedOut s log index table areas c t w ys → at ≡ placeOf t (take (s .files) (c .entries))
-      → r ≡ withEntries c (entryPut (c .entries) (s .files) at (record { time = t; rows = w .rows }))
+      → r ≡ withEntries c (entryPut (c .entries) (s .files) at (record { time = t; rows = w .rows; mark = k }))
       → areas' ≡ areaPut (s .limit) (s .files) at ys areas
-      → Keeping st t (storeOf (withCount s (s .files + 1)) log index table (writtenBack catalogue r) areas')
+      → Keeping st t k (storeOf (withCount s (s .files + 1)) log index table (writtenBack catalogue r) areas')
   keeping-of w {ys} at {r} {areas'} sixteen few fits long worked at-is r-is areas-are =
       rw result
       (record {
         framed = files-frame st (withCount s (s .files + 1)) (s .files + 1) new (length-kept R areas es f ∙ ap (λ (n : ℕ). n + 1) count) (whole-kept R areas es f (rw count fits) long) (omega arith) fits;
         audited = λ ok.
             let is = worked .on catalogue (loaded-by-value catalogue same (s .files) (omega arith) (omega arith)) ok in
-            let whole : f ≡ fileAt st t = rw (is .0, is .1) in
+            let whole : f ≡ fileAt st t k = rw (is .0, is .1) in
             ap (λ (g : File). state (withCount s (s .files + 1)) (withFiles (fileIn g (filesOf st)) (st .memory))) whole;
       })
     where
@@ -143,7 +143,7 @@ module _ (s : Numbers) (log index table : List ℕ) (catalogue : List Entry) (ar
 
       catalogue-is : writtenBack catalogue r ≡ put catalogue 0 (map entryOf new)
       catalogue-is =
-          let n : length (map entryOf new) ≡ s .files + 1 = length-map new entryOf ∙ length-kept R areas es f ∙ ap (λ (k : ℕ). k + 1) count in
+          let n : length (map entryOf new) ≡ s .files + 1 = length-map new entryOf ∙ length-kept R areas es f ∙ ap (λ (n : ℕ). n + 1) count in
           rw (r-is, place-is, same, gap-in-front E (f .entry ∷ []) p (s .files) within (omega (arith, length-by-value catalogue)), entries-are)
           (written-back catalogue (map entryOf new) (length catalogue) (omega (arith, n)) (omega (arith, n)))
 
@@ -153,7 +153,7 @@ module _ (s : Numbers) (log index table : List ℕ) (catalogue : List Entry) (ar
           let is : areasBytes new ≡ take (8 * R * p) areas ++ (ys ++ slice (8 * R * p) (8 * R * s .files) areas) =
           areas-kept R areas es f (rw count fits) ∙ ap (λ (n : ℕ). take (8 * R * p) areas ++ (ys ++ slice (8 * R * p) (8 * R * n) areas)) count in
           areas-are ∙ ap (λ (q : ℕ). areaPut R (s .files) q ys areas) place-is
-          ∙ ap (λ (k : ℕ). put (movedUp areas (8 * R * p) (8 * R * s .files) k) (8 * R * p) ys) (sym long)
+          ∙ ap (λ (n : ℕ). put (movedUp areas (8 * R * p) (8 * R * s .files) n) (8 * R * p) ys) (sym long)
           ∙ gap-in-front areas ys (8 * R * p) (8 * R * s .files) (omega arith) (omega (arith, long)) ∙ ap (put areas 0) (sym is)
 
       result : storeOf (withCount s (s .files + 1)) log index table (writtenBack catalogue r) areas' ≡ state (withCount s (s .files + 1)) (withFiles new (st .memory))

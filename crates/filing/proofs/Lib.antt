@@ -1,3 +1,4 @@
 pub mod FileEntries
 pub mod Keeping
+pub mod Letting
 pub mod Calls

@@ -1,18 +1,23 @@
--- What keep and drop promise (`FilesPromise` of model/specs/Promises) of every catalogue that is lent. Assumes nothing.
-use Prim.Native.Nat.{ℕ, _+_}
+-- What keep, drop and drop by mark promise (`FilesPromise` of model/specs/Promises) of every catalogue that is lent. Assumes
+-- nothing.
+use Prim.Native.Nat.{ℕ, _+_, _≤_}
 use mathlib.Core.Path.{_≡_}
 use mathlib.Core.List.{List}
+use mathlib.Core.Bool.{Bool}
+use lib.ListN.{length}
 use Rattle.model.specs.declared.Numbers.{Numbers}
 use Rattle.model.specs.declared.Entry.{Entry}
-use Rattle.model.specs.Answers.{verdictOutcome}
+use Rattle.model.specs.Answers.{verdictOutcome, dropMarkedOutcome}
 use Rattle.model.specs.Memory.{State, state}
-use Rattle.model.specs.Starts.{After}
-use Rattle.model.specs.Files.{filesOf, withFiles, withCount, fileIn, fileAt}
+use Rattle.model.specs.Starts.{Result, After}
+use Rattle.model.specs.Files.{filesOf, withFiles, withCount, fileIn, fileAt, reduced}
 use Rattle.model.specs.Audit.{Audited}
 use Rattle.model.specs.Promises.{storeOf, FilesFrame, FilesPromise}
 use Rattle.catalogue.specs.declared.Catalogue.{Catalogue}
+use Rattle.catalogue.specs.declared.Left.{Left}
 use Rattle.catalogue.specs.Files.{byValue, writtenBack}
 use Rattle.filing.specs.declared.Filed.{Filed}
+use Rattle.filing.specs.declared.Cleared.{Cleared}
 
 -- a call that may write the first `files` entries and areas, answered r, keeps its promise, `defined` being its definition
 abbrev pub Files : ℕ → Numbers → (log index table : List ℕ) → Catalogue → (areas : List ℕ) → Filed → (areas' : List ℕ) → (State → After) → Type 0
@@ -21,14 +26,30 @@ Files files s log index table c areas r areas' defined =
     → FilesPromise files (storeOf s log index table catalogue areas) (verdictOutcome (r .verdict))
     (storeOf (r .numbers) log index table (writtenBack catalogue (r .catalogue)) areas') (defined (storeOf s log index table catalogue areas))
 
+-- the same of a call that answers how many files went
+abbrev pub MarkedFiles : ℕ → Numbers → (log index table : List ℕ) → Catalogue → (areas : List ℕ) → Cleared → (areas' : List ℕ) → (State → Result ℕ) → Type 0
+MarkedFiles files s log index table c areas r areas' defined =
+    (catalogue : List Entry) → c ≡ byValue catalogue
+    → FilesPromise files (storeOf s log index table catalogue areas) (dropMarkedOutcome (r .answer))
+    (storeOf (r .numbers) log index table (writtenBack catalogue (r .catalogue)) areas') (defined (storeOf s log index table catalogue areas))
+
 -- ---- keep
 
--- the store with the file of time t, where the audit passes it
-abbrev pub kept : State → ℕ → State
-kept st t =
-    state (withCount (st .numbers) (st .numbers .files + 1)) (withFiles (fileIn (fileAt st t) (filesOf st)) (st .memory))
+-- the store with the file of time t and mark k, where the audit passes it
+abbrev pub kept : State → ℕ → ℕ → State
+kept st t k =
+    state (withCount (st .numbers) (st .numbers .files + 1)) (withFiles (fileIn (fileAt st t k) (filesOf st)) (st .memory))
 
 -- one file more and no byte past it, and on audited memory that store
-pub record Keeping (st : State) (t : ℕ) (st' : State) : Type 0 where
+pub record Keeping (st : State) (t k : ℕ) (st' : State) : Type 0 where
   pub framed : FilesFrame (st .numbers .files + 1) st st'
-  pub audited : (Audited st → st' ≡ kept st t)
+  pub audited : (Audited st → st' ≡ kept st t k)
+
+-- ---- drop
+
+-- entries and areas of the files that a test lets stay, and how many these are: the store is then `reduced`, on any memory and
+-- whatever the regions that are not lent hold
+pub record LetGo (stays : Entry → Bool) (s : Numbers) (c : Catalogue) (areas : List ℕ) (left : Left) (areas' : List ℕ) : Type 0 where
+  pub few : left .files ≤ s .files
+  pub is : (log index table : List ℕ) (catalogue : List Entry) → c ≡ byValue catalogue → s .files ≤ length catalogue
+      → storeOf (withCount s (left .files)) log index table (writtenBack catalogue (left .catalogue)) areas' ≡ reduced stays (storeOf s log index table catalogue areas)

@@ -14,6 +14,7 @@ use Rattle.model.specs.Answers.{answers, refuses, Question, firstNo}
 use Rattle.model.specs.Settings.{recordsInRange, settingsQuestions}
 use Rattle.model.specs.Records.{headerOrder, headerPage, headerLimit}
 use Rattle.model.specs.Pages.{indexNeed}
+use Rattle.model.specs.Marks.{isMark}
 use Rattle.model.specs.Memory.{Memory, State, sound, capacity, capacityOf, logLong, indexLong, tableLong}
 use Rattle.model.specs.Starts.{freshOf, openOf}
 use Rattle.model.specs.Changes.{roomFor}
@@ -107,16 +108,17 @@ module _ (d N R n f : ℕ) (l : Lengths) (a : Answered d N R n f l) where
         )
 
   module _ (st : State) (s : SettingsAre d N R (st .numbers)) (first : sound st ≡ true) where
-    keep-short : (t : ℕ) → st .numbers .files + 1 ≡ f → 0 < t → t ≤ st .numbers .last → isKept t (filesOf st) ≡ false
-        → (length (st .memory .catalogue) < lent .entries) ⊎ (length (st .memory .areas) < lent .areas) → keepOf st t .outcome ≡ refuses 15
+    keep-short : (t k : ℕ) → st .numbers .files + 1 ≡ f → 0 < t → t ≤ st .numbers .last → isMark k ≡ true → isKept t (filesOf st) ≡ false
+        → (length (st .memory .catalogue) < lent .entries) ⊎ (length (st .memory .areas) < lent .areas) → keepOf st t k .outcome ≡ refuses 15
     unfolding keepOf firstNo
-    keep-short t last some held new h =
+    keep-short t k last some held marked new h =
         let m = st .memory in
         let full : capacityOf R m < f = short-capacity R (length (m .catalogue)) (length (m .areas)) f (a .settings .limit-low) h in
         let same : capacityOf (st .numbers .limit) m ≡ capacityOf R m = ap (λ (r : ℕ). capacityOf r m) (s .limit-is) in
         rw (
           first,
           le-leb t (st .numbers .last) held,
+          marked,
           ne-eqb t 0 (λ e. omega arith),
           new,
           le-ltb (st .numbers .files) (capacityOf (st .numbers .limit) m) (omega arith),
@@ -151,6 +153,6 @@ no-less d N R n f l e =
       opened = λ m begins says. open-short d N R n f l a m says begins;
       log-full = log-short d N R n f l a;
       index-full = λ st more s last. index-short d N R n f l a st more last s;
-      kept = λ st t s last first. keep-short d N R n f l a st s first t last;
+      kept = λ st t k s last first. keep-short d N R n f l a st s first t k last;
       net-change = λ st x y out work s first. net-short d N R n f l a st s first x y out work;
     })

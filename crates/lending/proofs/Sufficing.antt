@@ -14,10 +14,10 @@ use Rattle.model.specs.Answers.{Outcome, answers, refuses, refusesAt, Question,
 use Rattle.model.specs.Settings.{recordsInRange}
 use Rattle.model.specs.Pages.{indexNeed}
 use Rattle.model.specs.Memory.{Memory, State, standing, capacityOf, logLong, indexLong, tableLong}
-use Rattle.model.specs.Starts.{After, after, notStarted, freshOf, openQuestions, wellWritten, openOf}
+use Rattle.model.specs.Starts.{Result, After, after, notStarted, freshOf, openQuestions, wellWritten, openOf}
 use Rattle.model.specs.Changes.{unchanged, roomFor, insertQuestions, presentQuestions, insertOf, deleteOf, updateOf}
 use Rattle.model.specs.Queries.{Written, Viewed, Netted, tableQuestions, netQuestions, positionOf, tableOf, viewOf, netOf}
-use Rattle.model.specs.Files.{keepQuestions, keepOf, dropQuestions, dropOf}
+use Rattle.model.specs.Files.{keepQuestions, keepOf, dropQuestions, dropOf, dropMarkedQuestions, dropMarkedOf}
 use Rattle.model.specs.Promises.{refusedBy}
 use Rattle.model.specs.Units.{unitsOf, differenceOf}
 use Rattle.model.specs.Calls.{Call, answerOf, Accepted}
@@ -89,7 +89,7 @@ module _ (d N R n f : ℕ) (l : Lengths) (a : Answered d N R n f l) where
     long k bytes h = rw (s .limit-is) (le-leb (k * R) bytes h)
 
     call : (c : Call) → Within n f (lengthsFor d N R n f) st c → saidLacking (answerOf st c) ≡ false
-    unfolding Within saidLacking answerOf lacking refusedBy sure Supplied insertOf deleteOf updateOf positionOf tableOf viewOf netOf unitsOf differenceOf keepOf dropOf
+    unfolding Within saidLacking answerOf lacking refusedBy sure Supplied insertOf deleteOf updateOf positionOf tableOf viewOf netOf unitsOf differenceOf keepOf dropOf dropMarkedOf
     call (Call.insert t x c) h =
         unless changeLacks (firstNo (insertQuestions st t x)) _ (unchanged st) refl (supplied Unit (insertQuestions st t x) (room 1 h))
     call (Call.delete t x) h =
@@ -110,9 +110,11 @@ module _ (d N R n f : ℕ) (l : Lengths) (a : Answered d N R n f l) where
     call (Call.units t) h = unless (λ (r : Outcome ℕ). lacking r) (firstNo (standing st)) _ refuses refl (supplied ℕ (standing st) tt)
     call (Call.difference x y) h =
         unless (λ (r : Outcome ℤ). lacking r) (firstNo (standing st)) _ refuses refl (supplied ℤ (standing st) tt)
-    call (Call.keep t) h =
-        unless changeLacks (firstNo (keepQuestions st t)) _ (unchanged st) refl (supplied Unit (keepQuestions st t) (lt-ltb _ _ (free h), tt))
+    call (Call.keep t k) h =
+        unless changeLacks (firstNo (keepQuestions st t k)) _ (unchanged st) refl (supplied Unit (keepQuestions st t k) (lt-ltb _ _ (free h), tt))
     call (Call.drop t) h = unless changeLacks (firstNo (dropQuestions st t)) _ (unchanged st) refl (supplied Unit (dropQuestions st t) tt)
+    call (Call.dropMarked k) h =
+        unless (λ (r : Result ℕ). lacking (r .outcome)) (firstNo (dropMarkedQuestions st k)) _ (unchanged st) refl (supplied ℕ (dropMarkedQuestions st k) tt)
     call Call.audit h = refl
 
   -- ---- starts
@@ -131,7 +133,7 @@ module _ (d N R n f : ℕ) (l : Lengths) (a : Answered d N R n f l) where
       (supplied Unit (openQuestions m) (rw (says .order-is, says .page-is, says .limit-is, says .records-is) space, tt))
     where
       -- accepted, or refused by 17
-      either : (b : Bool) (r : ℕ) (x y : State) → lacking (cond b (after (answers tt) x) (after (refusesAt 17 r) y) .outcome) ≡ false
+      either : (b : Bool) (r : ℕ) (x y : State) → lacking (cond {A = After} b (after (answers tt) x) (after (refusesAt 17 r) y) .outcome) ≡ false
       either true r x y = refl
       either false r x y = refl
 

@@ -9,13 +9,14 @@ use lib.ListN.{length}
 use Rattle.model.specs.declared.Numbers.{Numbers}
 use Rattle.model.specs.Answers.{Outcome, refuses, firstNo}
 use Rattle.model.specs.Records.{headerOrder, headerPage, headerLimit, headerRecords}
+use Rattle.model.specs.Marks.{isMark}
 use Rattle.model.specs.Memory.{Memory, State, sound}
 use Rattle.model.specs.Starts.{freshOf, openOf}
 use Rattle.model.specs.Changes.{roomFor}
 use Rattle.model.specs.Queries.{netOf}
 use Rattle.model.specs.Files.{filesOf, isKept, keepOf}
 use Rattle.model.specs.Promises.{refusedBy}
-use Rattle.model.specs.Calls.{Start, fresh, opening, StartFits, begun, Call, AllFit, Said, changed, positioned, written, viewed, netted, totalled, differed, audited, answerOf, Accepted}
+use Rattle.model.specs.Calls.{Start, fresh, opening, StartFits, begun, Call, AllFit, Said, changed, positioned, written, viewed, netted, totalled, differed, cleared, audited, answerOf, Accepted}
 use Rattle.model.specs.Demands.{left}
 use Rattle.log.specs.Headers.{beginsLog}
 use Rattle.lending.specs.declared.Lengths.{Lengths}
@@ -54,6 +55,7 @@ saidLacking (viewed v) = lacking (v .outcome)
 saidLacking (netted x) = lacking (x .outcome)
 saidLacking (totalled o) = lacking o
 saidLacking (differed o) = lacking o
+saidLacking (cleared o) = lacking o
 saidLacking (audited b) = false
 
 -- ---- enough
@@ -69,8 +71,9 @@ Within n f l st (Call.view t) = Unit
 Within n f l st (Call.netChange a b out work) = (l .output ≤ length out) × (l .workspace ≤ length work)
 Within n f l st (Call.units t) = Unit
 Within n f l st (Call.difference a b) = Unit
-Within n f l st (Call.keep t) = st .numbers .files + 1 ≤ f
+Within n f l st (Call.keep t k) = st .numbers .files + 1 ≤ f
 Within n f l st (Call.drop t) = Unit
+Within n f l st (Call.dropMarked k) = Unit
 Within n f l st Call.audit = Unit
 
 -- one call on any state
@@ -108,8 +111,8 @@ pub record NoLess (d N R n f : ℕ) (l : Lengths) : Type 0 where
   pub index-full : (st : State) (more : ℕ) → SettingsAre d N R (st .numbers) → st .numbers .records + more ≡ n → l .log ≤ length (st .memory .log)
       → length (st .memory .index) < l .index → firstNo (roomFor st more) ≡ 11
   -- the keeping of the f-th file
-  pub kept : (st : State) (t : ℕ) → SettingsAre d N R (st .numbers) → st .numbers .files + 1 ≡ f → sound st ≡ true → 0 < t → t ≤ st .numbers .last
+  pub kept : (st : State) (t k : ℕ) → SettingsAre d N R (st .numbers) → st .numbers .files + 1 ≡ f → sound st ≡ true → 0 < t → t ≤ st .numbers .last → isMark k ≡ true
       → isKept t (filesOf st) ≡ false → (length (st .memory .catalogue) < l .entries) ⊎ (length (st .memory .areas) < l .areas)
-      → keepOf st t .outcome ≡ refuses 15
+      → keepOf st t k .outcome ≡ refuses 15
   pub net-change : (st : State) (a b : ℕ) (out work : List ℕ) → SettingsAre d N R (st .numbers) → sound st ≡ true
       → (length out < l .output) ⊎ (length work < l .workspace) → netOf st a b out work .outcome ≡ refuses 13

@@ -15,6 +15,7 @@ use Rattle.model.specs.declared.Entry.{Entry}
 use Rattle.model.specs.Settings.{orderInRange, pageSizeInRange, rowLimitInRange, recordsInRange}
 use Rattle.model.specs.Records.{records, recordsOf, headerBytes}
 use Rattle.model.specs.Rows.{tableBytes}
+use Rattle.model.specs.Marks.{isMark}
 use Rattle.model.specs.Timeslice.{timeslice}
 use Rattle.model.specs.Legal.{legal, lastFrom, lastTime}
 use Rattle.model.specs.Pages.{indexNeed}
@@ -45,9 +46,9 @@ within-capacity R entries bytes k some few lent long =
 
 -- ---- zero entries
 
-pub entry-zero : {e : Entry} → e .time ≡ 0 → e .rows ≡ 0 → e ≡ noEntry
-entry-zero {e} t r =
-    let g : _≡_ {A = Entry} (record { time = e .time; rows = e .rows }) (record { time = 0; rows = 0 }) = cc in
+pub entry-zero : {e : Entry} → e .time ≡ 0 → e .rows ≡ 0 → e .mark ≡ 0 → e ≡ noEntry
+entry-zero {e} t r k =
+    let g : _≡_ {A = Entry} (record { time = e .time; rows = e .rows; mark = e .mark }) (record { time = 0; rows = 0; mark = 0 }) = cc in
     g
 
 pub zero-entries : (es : List Entry) → entriesZero es ≡ true → es ≡ replicate (length es) noEntry
@@ -56,9 +57,11 @@ zero-entries [] h = refl
 zero-entries (e ∷ es) h =
     let t = eqb (e .time) 0 in
     let r = eqb (e .rows) 0 in
-    let front = and-left (t && r) (entriesZero es) h in
-    let one : e ≡ noEntry = entry-zero (eqb-true _ _ (and-left t r front)) (eqb-true _ _ (and-right t r front)) in
-    let rest : es ≡ replicate (length es) noEntry = zero-entries es (and-right (t && r) (entriesZero es) h) in
+    let k = eqb (e .mark) 0 in
+    let front = and-left (t && r && k) (entriesZero es) h in
+    let two = and-left (t && r) k front in
+    let one : e ≡ noEntry = entry-zero (eqb-true _ _ (and-left t r two)) (eqb-true _ _ (and-right t r two)) (eqb-true _ _ (and-right (t && r) k front)) in
+    let rest : es ≡ replicate (length es) noEntry = zero-entries es (and-right (t && r && k) (entriesZero es) h) in
     cc
 
 pub entries-zero : (n : ℕ) → entriesZero (replicate n noEntry) ≡ true
@@ -80,8 +83,10 @@ files-of-test st before (f ∷ fs) h =
     let b = leb t (st .numbers .last) in
     let c = eqb (f .entry .rows) (length rows) in
     let d = same (f .area) (tableBytes R rows) in
+    let e = isMark (f .entry .mark) in
     let more = filesAudited st t fs in
-    let h4 = and-left (a && b && c && d) more h in
+    let h5 = and-left (a && b && c && d && e) more h in
+    let h4 = and-left (a && b && c && d) e h5 in
     let h3 = and-left (a && b && c) d h4 in
     let h2 = and-left (a && b) c h3 in (
       record {
@@ -89,8 +94,9 @@ files-of-test st before (f ∷ fs) h =
         held = leb-true _ _ (and-right a b h2);
         rows-are = eqb-true _ _ (and-right (a && b) c h3);
         area-is = same-true _ _ (and-right (a && b && c) d h4);
+        mark-is = and-right (a && b && c && d) e h5;
       },
-      files-of-test st t fs (and-right (a && b && c && d) more h),
+      files-of-test st t fs (and-right (a && b && c && d && e) more h),
     )
 
 pub test-of-files : (st : State) (before : ℕ) (fs : List File) → FilesAre (st .numbers .limit) (st .numbers .last) (logOf st) before fs
@@ -98,7 +104,7 @@ pub test-of-files : (st : State) (before : ℕ) (fs : List File) → FilesAre (s
 unfolding filesAudited FilesAre
 test-of-files st before [] h = refl
 test-of-files st before (f ∷ fs) h =
-    rw (lt-ltb _ _ (h .0 .later), le-leb _ _ (h .0 .held), eq-eqb _ _ (h .0 .rows-are), same-of-equal _ _ (h .0 .area-is)) (test-of-files st (f .entry .time) fs (h .1))
+    rw (lt-ltb _ _ (h .0 .later), le-leb _ _ (h .0 .held), eq-eqb _ _ (h .0 .rows-are), same-of-equal _ _ (h .0 .area-is), h .0 .mark-is) (test-of-files st (f .entry .time) fs (h .1))
 
 -- ---- question 1
 

@@ -34,7 +34,7 @@ with files =
     (record { log = replicate 24 0 ++ recordsBytes workedLog; index = []; table = []; catalogue = files; areas = [] })
 
 abbrev kept : ℕ → ℕ → Entry
-kept t k = record { time = t; rows = k }
+kept t k = record { time = t; rows = k; mark = 0 }
 
 abbrev file : ℕ → ℕ → ℕ → Held
 file i t k = record { time = t; place = Area i; rows = k }

@@ -3,7 +3,7 @@
 use Prim.Native.Nat.{ℕ, zero, suc, _+_, _-_, _*_, _≤_}
 use mathlib.Core.Path.{_≡_, refl, ap, _∙_}
 use mathlib.Core.List.{List, [], _∷_, _++_, append-assoc, map}
-use mathlib.Core.Bool.{Bool, true, false, cond}
+use mathlib.Core.Bool.{Bool, true, false, not, cond}
 use native.Mathlib.Omega.{arith}
 use native.Mathlib.Nat.{add-zero}
 use lib.ListN.{length, drop, replicate, length-append, length-replicate, length-map, replicate-append-replicate}
@@ -127,6 +127,17 @@ module _ (stays : Entry → Bool) where
       by : (p : Bool) → length (staying stays fs) ≤ length fs → length (cond p (f ∷ staying stays fs) (staying stays fs)) ≤ suc (length fs)
       by true h = omega arith
       by false h = omega arith
+
+-- those that go and those that stay are all
+pub length-going : (goes : Entry → Bool) (fs : List File) → length (staying goes fs) + length (staying (λ e. not (goes e)) fs) ≡ length fs
+unfolding staying
+length-going goes [] = refl
+length-going goes (f ∷ fs) = by (goes (f .entry)) (length-going goes fs)
+  where
+    by : (p : Bool) → length (staying goes fs) + length (staying (λ e. not (goes e)) fs) ≡ length fs
+        → length (cond p (f ∷ staying goes fs) (staying goes fs)) + length (cond (not p) (f ∷ staying (λ e. not (goes e)) fs) (staying (λ e. not (goes e)) fs)) ≡ suc (length fs)
+    by true h = omega arith
+    by false h = omega arith
 
 pub length-closed-up : (R files : ℕ) (fs : List File) → length fs ≤ files → length (closedUp R files fs) ≡ files
 length-closed-up R files fs h =

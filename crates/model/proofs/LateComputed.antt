@@ -24,6 +24,7 @@ use Rattle.model.specs.Pages.{pageTimesFrom}
 use Rattle.model.specs.Shape.{valuationUpTo, cofactorUpTo, valuation, cofactor, opens}
 use Rattle.model.specs.Numbering.{opened, nodes, leafNode}
 use Rattle.model.specs.Tree.{keysUpTo}
+use Rattle.model.specs.Marks.{goes, isMark}
 use Rattle.model.specs.Memory.{State, state, noEntry, capacity, headerIs, numbersInRange, logLong, indexLong, tableLong, fits}
 use Rattle.model.specs.Outset.{filesFrom, latest, earliest, chooseBy}
 use Rattle.model.specs.NetChange.{missing, placed, arranged, netChange, changeBytes, changesBytes, netChangeBytes}
@@ -37,7 +38,7 @@ use Rattle.model.specs.Calls.{answerOf}
 use Rattle.model.specs.LateTimes.{saidRefusedBy}
 
 unfoldable pub computing : Unit {0}
-unfolding number bytes same firstNo orderInRange pageSizeInRange rowLimitInRange recordsInRange recordBytes recordsBytes recordIn records headerBytes lacks hasRow countOf putIn without rowBytes rowsBytes tableBytes named table upTo timeslice pageTimesFrom valuationUpTo cofactorUpTo valuation cofactor opens opened nodes leafNode keysUpTo capacity headerIs numbersInRange logLong indexLong tableLong fits filesFrom latest earliest chooseBy missing placed arranged netChange changeBytes changesBytes netChangeBytes answeredTime positionOf tableOf rowsPart viewOf netOf filesIn areasBytes isKept fileIn keepOf inserted deleted unitsAt difference unitsOf differenceOf formed lastFrom isUpdate inTime allowed legalNext legalAfter logAudited tableAudited indexAudited filesAudited entriesZero restAudited auditOf refusedBy answerOf saidRefusedBy
+unfolding number bytes same firstNo orderInRange pageSizeInRange rowLimitInRange recordsInRange recordBytes recordsBytes recordIn records headerBytes lacks hasRow countOf putIn without rowBytes rowsBytes tableBytes named table upTo timeslice pageTimesFrom valuationUpTo cofactorUpTo valuation cofactor opens opened nodes leafNode keysUpTo capacity headerIs numbersInRange logLong indexLong tableLong fits filesFrom latest earliest chooseBy missing placed arranged netChange changeBytes changesBytes netChangeBytes answeredTime positionOf tableOf rowsPart viewOf netOf filesIn areasBytes isKept fileIn keepOf goes isMark inserted deleted unitsAt difference unitsOf differenceOf formed lastFrom isUpdate inTime allowed legalNext legalAfter logAudited tableAudited indexAudited filesAudited entriesZero restAudited auditOf refusedBy answerOf saidRefusedBy
 computing = tt
 
 -- ---- the store
@@ -67,7 +68,7 @@ two =
 abbrev pub filed : State
 filed =
     state (numbers 1)
-    (record { log = two .memory .log; index = 10 ∷ []; table = rows20; catalogue = record { time = 20; rows = 2 } ∷ []; areas = rows20 })
+    (record { log = two .memory .log; index = 10 ∷ []; table = rows20; catalogue = record { time = 20; rows = 2; mark = 0 } ∷ []; areas = rows20 })
 
 -- ---- the queries, for 10, 20, 21 and 2 ^ 64 - 1
 

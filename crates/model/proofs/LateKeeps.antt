@@ -11,10 +11,10 @@ use borrow.Author.Tests.{lt-leb}
 use Rattle.model.specs.declared.Position.{Position}
 use Rattle.model.specs.Answers.{Outcome, refuses, Question, firstNo, TableSaid}
 use Rattle.model.specs.Memory.{State, sound, standing}
-use Rattle.model.specs.Starts.{After, after, freshQuestions, freshOf, openQuestions, wellWritten, openOf, notStarted}
+use Rattle.model.specs.Starts.{Result, After, after, freshQuestions, freshOf, openQuestions, wellWritten, openOf, notStarted}
 use Rattle.model.specs.Changes.{unchanged, insertQuestions, presentQuestions, insertOf, deleteOf, updateOf}
 use Rattle.model.specs.Queries.{positionOf, Written, tableQuestions, tableOf, Viewed, viewOf, Netted, netQuestions, netOf}
-use Rattle.model.specs.Files.{keepOf, dropQuestions, dropOf}
+use Rattle.model.specs.Files.{keepOf, dropQuestions, dropOf, dropMarkedQuestions, dropMarkedOf}
 use Rattle.model.specs.Units.{unitsOf, differenceOf}
 use Rattle.model.specs.Promises.{refusedBy}
 use Rattle.model.specs.Calls.{Start, fresh, opening, begun, Call, answerOf}
@@ -24,13 +24,13 @@ use Rattle.model.proofs.LateComputed.{computing, two, filed}
 
 -- ---- computed
 
-late-keeps : (keepOf two 21 ∷ keepOf filed 21 ∷ []) ≡ after (refuses 12) two ∷ after (refuses 12) filed ∷ []
+late-keeps : (keepOf two 21 0 ∷ keepOf filed 21 5 ∷ []) ≡ after (refuses 12) two ∷ after (refuses 12) filed ∷ []
 unfolding computing
 late-keeps = refl
 
 -- which calls for 21 are refused by 12
 met : map (λ (c : Call). saidRefusedBy 12 (answerOf two c))
-    (Call.position 21 ∷ Call.table 21 [] ∷ Call.view 21 ∷ Call.netChange 21 21 [] [] ∷ Call.units 21 ∷ Call.difference 21 21 ∷ Call.keep 20 ∷ Call.keep 21 ∷ [])
+    (Call.position 21 ∷ Call.table 21 [] ∷ Call.view 21 ∷ Call.netChange 21 21 [] [] ∷ Call.units 21 ∷ Call.difference 21 21 ∷ Call.keep 20 7 ∷ Call.keep 21 7 ∷ [])
     ≡ replicate 7 false ++ (true ∷ [])
 unfolding computing
 met = refl
@@ -39,7 +39,7 @@ met = refl
 
 pub time-asked-by-keep : (st : State) → TimeAskedByKeep st
 unfolding asks
-time-asked-by-keep st = record { standing-without = refl; table-without = λ out. refl; net-change-without = λ out work. refl; keep-with = λ t. refl }
+time-asked-by-keep st = record { standing-without = refl; table-without = λ out. refl; net-change-without = λ out work. refl; keep-with = λ t k. refl }
 
 -- questions that 12 is not among refuse by another number
 not-by-12 : (qs : List Question) → asks 12 qs ≡ false → eqb (firstNo qs) 12 ≡ false
@@ -72,7 +72,7 @@ module _ (st : State) where
   without c e f = absurd (false≢true (sym e ∙ f))
 
   pub keep-alone : (c : Call) → saidRefusedBy 12 (answerOf st c) ≡ true → IsKeep c
-  unfolding answerOf saidRefusedBy refusedBy asks insertOf deleteOf updateOf positionOf tableOf viewOf netOf unitsOf differenceOf dropOf
+  unfolding answerOf saidRefusedBy refusedBy asks insertOf deleteOf updateOf positionOf tableOf viewOf netOf unitsOf differenceOf dropOf dropMarkedOf
   keep-alone (Call.insert t a c) =
       without (Call.insert t a c) (unless by12 (firstNo (insertQuestions st t a)) _ (unchanged st) refl (not-by-12 (insertQuestions st t a) refl))
   keep-alone (Call.delete t a) =
@@ -93,13 +93,16 @@ module _ (st : State) where
       without (Call.units t) (unless (λ (r : Outcome ℕ). refusedBy 12 r) (firstNo (standing st)) _ refuses refl (not-by-12 (standing st) refl))
   keep-alone (Call.difference a b) =
       without (Call.difference a b) (unless (λ (r : Outcome ℤ). refusedBy 12 r) (firstNo (standing st)) _ refuses refl (not-by-12 (standing st) refl))
-  keep-alone (Call.keep t) = λ e. keeps t
+  keep-alone (Call.keep t k) = λ e. keeps t k
   keep-alone (Call.drop t) = without (Call.drop t) (unless by12 (firstNo (dropQuestions st t)) _ (unchanged st) refl (not-by-12 (dropQuestions st t) refl))
+  keep-alone (Call.dropMarked k) =
+      without (Call.dropMarked k)
+      (unless (λ (r : Result ℕ). refusedBy 12 (r .outcome)) (firstNo (dropMarkedQuestions st k)) _ (unchanged st) refl (not-by-12 (dropMarkedQuestions st k) refl))
   keep-alone Call.audit = without Call.audit refl
 
-  pub keep-refused : (t : ℕ) → sound st ≡ true → st .numbers .last < t → keepOf st t ≡ unchanged st 12
+  pub keep-refused : (t k : ℕ) → sound st ≡ true → st .numbers .last < t → keepOf st t k ≡ unchanged st 12
   unfolding keepOf firstNo
-  keep-refused t q h = rw (q, lt-leb _ _ h)
+  keep-refused t k q h = rw (q, lt-leb _ _ h)
 
 pub only-keep-meets-12 : OnlyKeepMeets12
 only-keep-meets-12 = record { no-start = no-start; keep-alone = keep-alone; keep-refused = keep-refused }

@@ -20,10 +20,13 @@ pub mod PromiseLaws
 pub mod AppendLaws
 pub mod RecordLaws
 pub mod FirstWrongLaws
+pub mod LateComputed
+pub mod FileComputed
+pub mod AuditComputed
 pub mod AuditLaws
 pub mod UnitsLaws
 pub mod SignedLaws
-pub mod LateComputed
+pub mod MarkLaws
 pub mod LateLaws
 pub mod LateKeeps
 pub mod FileLaws

@@ -7,7 +7,7 @@ use mathlib.Core.Bool.{Bool, cond}
 use lib.IntN.{ℤ}
 use Rattle.model.specs.declared.Settings.{Settings}
 use Rattle.model.specs.declared.Refusal.{Refusal}
-use Rattle.model.specs.declared.Refusal.the-variants.{Header, Order, PageSize, RowLimit, Memory, TimeNotAbove, ArticlePresent, ArticleAbsent, RowsFull, LogFull, IndexFull, TimeAfterLast, OutputShort, NotToKeep, CatalogueFull, NotKept, WrongRecord}
+use Rattle.model.specs.declared.Refusal.the-variants.{Header, Order, PageSize, RowLimit, Memory, TimeNotAbove, ArticlePresent, ArticleAbsent, RowsFull, LogFull, IndexFull, TimeAfterLast, OutputShort, NotToKeep, CatalogueFull, NotKept, WrongRecord, WrongMark}
 use Rattle.model.specs.declared.Checked.{Checked}
 use Rattle.model.specs.declared.Checked.the-variants as checked
 use Rattle.model.specs.declared.Verdict.{Verdict}
@@ -27,6 +27,8 @@ use Rattle.model.specs.declared.UnitsAnswer.{UnitsAnswer}
 use Rattle.model.specs.declared.UnitsAnswer.the-variants as units
 use Rattle.model.specs.declared.DifferenceAnswer.{DifferenceAnswer}
 use Rattle.model.specs.declared.DifferenceAnswer.the-variants as difference
+use Rattle.model.specs.declared.DropMarkedAnswer.{DropMarkedAnswer}
+use Rattle.model.specs.declared.DropMarkedAnswer.the-variants as marked
 
 -- "The first no stops the call and gives its number alone"; 17 comes "with a record number"
 pub data Outcome (A : Type 0) : Type 0 where
@@ -53,6 +55,7 @@ refusal NotToKeep = refuses 14
 refusal CatalogueFull = refuses 15
 refusal NotKept = refuses 16
 refusal (WrongRecord k) = refusesAt 17 (k .0)
+refusal WrongMark = refuses 18
 
 -- ---- questions
 
@@ -124,3 +127,8 @@ unitsOutcome (units.Refused why) = refusal why
 unfoldable pub differenceOutcome : DifferenceAnswer → Outcome ℤ
 differenceOutcome (difference.Difference k) = answers k
 differenceOutcome (difference.Refused why) = refusal why
+
+-- "and answers how many went"
+unfoldable pub dropMarkedOutcome : DropMarkedAnswer → Outcome ℕ
+dropMarkedOutcome (marked.Gone k) = answers k
+dropMarkedOutcome (marked.Refused why) = refusal why

@@ -9,6 +9,7 @@ use lib.Dec.{leb, ltb, eqb}
 use Rattle.codec.specs.Parts.{same}
 use Rattle.model.specs.declared.Entry.{Entry}
 use Rattle.model.specs.Rows.{tableBytes}
+use Rattle.model.specs.Marks.{isMark}
 use Rattle.model.specs.Legal.{legal, lastTime}
 use Rattle.model.specs.Tree.{withTree}
 use Rattle.model.specs.Memory.{State, logOf, rowsNow, keysOf, sound, capacityOf}
@@ -29,19 +30,19 @@ tableAudited st =
 unfoldable pub indexAudited : State → Bool
 indexAudited st = same (withTree (st .numbers .order) (keysOf st) (st .memory .index)) (st .memory .index)
 
--- each file is later than the one before it, up to the last time, and holds the table of its time
+-- each file is later than the one before it, up to the last time, holds the table of its time and has a mark that keep accepts
 unfoldable pub filesAudited : State → ℕ → List File → Bool
 filesAudited st before [] = true
 filesAudited st before (f ∷ fs) =
     ltb before (f .entry .time) && leb (f .entry .time) (st .numbers .last)
     && eqb (f .entry .rows) (length (rowsAt st (f .entry .time)))
     && same (f .area) (tableBytes (st .numbers .limit) (rowsAt st (f .entry .time)))
-    && filesAudited st (f .entry .time) fs
+    && isMark (f .entry .mark) && filesAudited st (f .entry .time) fs
 
--- "zero after the last", up to the capacity
+-- "zero after the last", up to the capacity, the mark too
 unfoldable pub entriesZero : List Entry → Bool
 entriesZero [] = true
-entriesZero (e ∷ es) = eqb (e .time) 0 && eqb (e .rows) 0 && entriesZero es
+entriesZero (e ∷ es) = eqb (e .time) 0 && eqb (e .rows) 0 && eqb (e .mark) 0 && entriesZero es
 
 unfoldable pub restAudited : State → Bool
 restAudited st =

@@ -9,10 +9,10 @@ use Rattle.codec.specs.LittleEndian.{AreBytes}
 use Rattle.model.specs.declared.Position.{Position}
 use Rattle.model.specs.Answers.{Outcome, answers, TableSaid}
 use Rattle.model.specs.Memory.{Memory, State, Lendable}
-use Rattle.model.specs.Starts.{After, freshOf, openOf}
+use Rattle.model.specs.Starts.{Result, After, freshOf, openOf}
 use Rattle.model.specs.Changes.{insertOf, deleteOf, updateOf}
 use Rattle.model.specs.Queries.{Written, Viewed, Netted, positionOf, tableOf, viewOf, netOf}
-use Rattle.model.specs.Files.{keepOf, dropOf}
+use Rattle.model.specs.Files.{keepOf, dropOf, dropMarkedOf}
 use Rattle.model.specs.Audit.{auditOf}
 use Rattle.model.specs.Units.{unitsOf, differenceOf}
 
@@ -36,8 +36,9 @@ pub data Call : Type 0 where
   netChange : (a b : ℕ) → (out work : List ℕ) → Call
   units : (t : ℕ) → Call
   difference : (a b : ℕ) → Call
-  keep : (t : ℕ) → Call
+  keep : (t k : ℕ) → Call
   drop : (t : ℕ) → Call
+  dropMarked : (k : ℕ) → Call
   audit : Call
 
 -- the store after a call; queries and the audit change no part of it
@@ -51,8 +52,9 @@ step st (view t) = st
 step st (netChange a b out work) = st
 step st (units t) = st
 step st (difference a b) = st
-step st (keep t) = keepOf st t .state
+step st (keep t k) = keepOf st t k .state
 step st (drop t) = dropOf st t .state
+step st (dropMarked k) = dropMarkedOf st k .state
 step st audit = st
 
 -- what a call answers, with what it leaves in an output and a workspace of its own
@@ -64,6 +66,7 @@ pub data Said : Type 0 where
   netted : Netted → Said
   totalled : Outcome ℕ → Said
   differed : Outcome ℤ → Said
+  cleared : Outcome ℕ → Said
   audited : Bool → Said
 
 unfoldable pub answerOf : State → Call → Said
@@ -76,8 +79,9 @@ answerOf st (view t) = viewed (viewOf st t)
 answerOf st (netChange a b out work) = netted (netOf st a b out work)
 answerOf st (units t) = totalled (unitsOf st t)
 answerOf st (difference a b) = differed (differenceOf st a b)
-answerOf st (keep t) = changed (keepOf st t .outcome)
+answerOf st (keep t k) = changed (keepOf st t k .outcome)
 answerOf st (drop t) = changed (dropOf st t .outcome)
+answerOf st (dropMarked k) = cleared (dropMarkedOf st k .outcome)
 answerOf st audit = audited (auditOf st)
 
 -- "Each call gets the store's numbers and the lent [memory] as the last one returned or left them"
@@ -101,8 +105,9 @@ CallFits (view t) = t < 2 ^ 64
 CallFits (netChange a b out work) = (a < 2 ^ 64) × ((b < 2 ^ 64) × (AreBytes out × AreBytes work))
 CallFits (units t) = t < 2 ^ 64
 CallFits (difference a b) = (a < 2 ^ 64) × (b < 2 ^ 64)
-CallFits (keep t) = t < 2 ^ 64
+CallFits (keep t k) = (t < 2 ^ 64) × (k < 2 ^ 32)
 CallFits (drop t) = t < 2 ^ 64
+CallFits (dropMarked k) = k < 2 ^ 32
 CallFits audit = Unit
 
 unfoldable pub AllFit : List Call → Type 0
@@ -114,11 +119,16 @@ AllFit (c ∷ cs) = CallFits c × AllFit cs
 abbrev pub Accepted : After → Type 0
 Accepted a = a .outcome ≡ answers tt
 
+-- so many files went
+abbrev pub Went : ℕ → Result ℕ → Type 0
+Went n a = a .outcome ≡ answers n
+
 -- a constructor for each start and each accepted call; a query or an audit leaves the state it was given
 pub data Reachable : State → Type 0 where
   started : (s : Start) → StartFits s → Accepted (begun s) → Reachable (begun s .state)
   inserted : {st : State} (t a c : ℕ) → Reachable st → CallFits (insert t a c) → Accepted (insertOf st t a c) → Reachable (insertOf st t a c .state)
   deleted : {st : State} (t a : ℕ) → Reachable st → CallFits (delete t a) → Accepted (deleteOf st t a) → Reachable (deleteOf st t a .state)
   updated : {st : State} (t a c : ℕ) → Reachable st → CallFits (update t a c) → Accepted (updateOf st t a c) → Reachable (updateOf st t a c .state)
-  kept : {st : State} (t : ℕ) → Reachable st → CallFits (keep t) → Accepted (keepOf st t) → Reachable (keepOf st t .state)
+  kept : {st : State} (t k : ℕ) → Reachable st → CallFits (keep t k) → Accepted (keepOf st t k) → Reachable (keepOf st t k .state)
   dropped : {st : State} (t : ℕ) → Reachable st → CallFits (drop t) → Accepted (dropOf st t) → Reachable (dropOf st t .state)
+  markedDropped : {st : State} (k n : ℕ) → Reachable st → CallFits (dropMarked k) → Went n (dropMarkedOf st k) → Reachable (dropMarkedOf st k .state)

@@ -11,10 +11,10 @@ use Rattle.model.specs.Answers.{Outcome, answers, TableSaid, OutsetSaid}
 use Rattle.model.specs.Memory.{State}
 use Rattle.model.specs.Starts.{after}
 use Rattle.model.specs.Changes.{insertOf, deleteOf, updateOf}
-use Rattle.model.specs.Files.{keepOf, dropOf}
+use Rattle.model.specs.Files.{keepOf, dropOf, dropMarkedOf}
 use Rattle.model.specs.Audit.{auditOf}
 use Rattle.model.specs.Promises.{AppendPromise, FilesPromise, PositionPromise, TablePromise, ViewPromise, NetChangePromise, UnitsPromise, DifferencePromise}
-use Rattle.model.specs.Calls.{Start, begun, Call, Said, changed, positioned, written, viewed, netted, totalled, differed, audited}
+use Rattle.model.specs.Calls.{Start, begun, Call, Said, changed, positioned, written, viewed, netted, totalled, differed, cleared, audited}
 
 -- a call on a store answers, and leaves a store, as its contract promises
 pub data Carried : State → Call → Said → State → Type 0 where
@@ -30,8 +30,9 @@ pub data Carried : State → Call → Said → State → Type 0 where
       → Carried st (Call.netChange a b out work) (netted (record { outcome = o; output = out'; workspace = work' })) st
   units : {st : State} (t : ℕ) {o : Outcome ℕ} → UnitsPromise st t o → Carried st (Call.units t) (totalled o) st
   difference : {st : State} (a b : ℕ) {o : Outcome ℤ} → DifferencePromise st a b o → Carried st (Call.difference a b) (differed o) st
-  keep : {st st' : State} (t : ℕ) {o : Outcome Unit} → FilesPromise (st .numbers .files + 1) st o st' (keepOf st t) → Carried st (Call.keep t) (changed o) st'
+  keep : {st st' : State} (t k : ℕ) {o : Outcome Unit} → FilesPromise (st .numbers .files + 1) st o st' (keepOf st t k) → Carried st (Call.keep t k) (changed o) st'
   drop : {st st' : State} (t : ℕ) {o : Outcome Unit} → FilesPromise (st .numbers .files) st o st' (dropOf st t) → Carried st (Call.drop t) (changed o) st'
+  dropMarked : {st st' : State} (k : ℕ) {o : Outcome ℕ} → FilesPromise (st .numbers .files) st o st' (dropMarkedOf st k) → Carried st (Call.dropMarked k) (cleared o) st'
   audit : {st : State} {yes : Bool} → yes ≡ auditOf st → Carried st Call.audit (audited yes) st
 
 -- "Each call gets the store's numbers and the lent [memory] as the last one returned or left them"

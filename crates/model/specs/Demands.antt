@@ -5,7 +5,7 @@ use Prim.Native.Nat.{ℕ, _+_, _*_, _≤_, _<_}
 use mathlib.Core.Path.{_≡_}
 use mathlib.Core.Logic.{_↔_}
 use mathlib.Core.List.{List, [], _∷_, List·Memᴰ}
-use mathlib.Core.Bool.{Bool, true, false, not, _&&_, _||_}
+use mathlib.Core.Bool.{Bool, true, false, not, cond, _&&_}
 use lib.ListN.{length, take}
 use lib.Dec.{eqb}
 use lib.IntN.{ℤ}
@@ -26,8 +26,9 @@ use Rattle.model.specs.NetChange.{Change, netChangeBytes, leads}
 use Rattle.model.specs.Starts.{openOf}
 use Rattle.model.specs.Positions.{PageAndCount}
 use Rattle.model.specs.Queries.{answeredTime, Written, Netted, positionOf, tableOf, rowsAt, netOf}
-use Rattle.model.specs.Files.{filesOf, isKept, keepOf, dropOf}
+use Rattle.model.specs.Files.{File, filesOf, isKept, keepOf, dropOf, dropMarkedOf}
 use Rattle.model.specs.Audit.{Audited}
+use Rattle.model.specs.Facts.{InOrder}
 use Rattle.model.specs.Units.{unitsOf, differenceOf, UnitsTell, DifferenceTells}
 use Rattle.model.specs.Promises.{isRefused}
 use Rattle.model.specs.Calls.{Start, StartFits, begun, Call, AllFit, Said, positioned, written, netted, totalled, differed, answerOf, step, run, Accepted, Reachable}
@@ -155,9 +156,23 @@ SameTables =
     (s s' : Start) (cs cs' : List Call) → StartFits s → StartFits s' → AllFit cs → AllFit cs' → Accepted (begun s) → Accepted (begun s')
     → OneLog (left s cs) (left s' cs') → OneTable (left s cs) (left s' cs')
 
--- "a count file [is held] from the accepted keep of its time until an accepted call deletes it": whether one of time t
--- is held after a call, and after a list of calls
-unfoldable pub heldNext : ℕ → Bool → State → Call → Bool
+-- "No table may differ because a marked file has gone" (02, wish 3): of one store, before and after
+abbrev pub NoTableDiffers : Type 0
+NoTableDiffers = (st : State) (k : ℕ) → InOrder st → OneTable st (dropMarkedOf st k .state)
+
+-- the marks of the files of time t: one where such a file is held, else none
+unfoldable pub marksAt : ℕ → List File → List ℕ
+marksAt t [] = []
+marksAt t (f ∷ fs) = cond (eqb (f .entry .time) t) (f .entry .mark ∷ marksAt t fs) (marksAt t fs)
+
+-- those that are not k
+unfoldable pub otherMarks : ℕ → List ℕ → List ℕ
+otherMarks k [] = []
+otherMarks k (j ∷ js) = cond (eqb j k) (otherMarks k js) (j ∷ otherMarks k js)
+
+-- "a count file [is held] from the accepted keep of its time until an accepted call deletes it", with the mark it was
+-- kept with: the marks at time t after a call, and after a list of calls
+unfoldable pub heldNext : ℕ → List ℕ → State → Call → List ℕ
 heldNext t before st (Call.insert u a c) = before
 heldNext t before st (Call.delete u a) = before
 heldNext t before st (Call.update u a c) = before
@@ -167,22 +182,34 @@ heldNext t before st (Call.view u) = before
 heldNext t before st (Call.netChange a b out work) = before
 heldNext t before st (Call.units u) = before
 heldNext t before st (Call.difference a b) = before
-heldNext t before st (Call.keep u) = before || (eqb u t && not (isRefused (keepOf st u .outcome)))
-heldNext t before st (Call.drop u) = before && not (eqb u t && not (isRefused (dropOf st u .outcome)))
+heldNext t before st (Call.keep u k) = cond (eqb u t && not (isRefused (keepOf st u k .outcome))) (k ∷ before) before
+heldNext t before st (Call.drop u) = cond (eqb u t && not (isRefused (dropOf st u .outcome))) [] before
+heldNext t before st (Call.dropMarked k) = cond (isRefused (dropMarkedOf st k .outcome)) before (otherMarks k before)
 heldNext t before st Call.audit = before
 
-unfoldable pub heldAfter : ℕ → Bool → State → List Call → Bool
+unfoldable pub heldAfter : ℕ → List ℕ → State → List Call → List ℕ
 heldAfter t before st [] = before
 heldAfter t before st (c ∷ cs) = heldAfter t (heldNext t before st c) (step st c) cs
+
+-- whether there is one
+unfoldable pub some : List ℕ → Bool
+some [] = false
+some (k ∷ ks) = true
+
+-- the files hold one of time t exactly where a mark is due, and with that mark
+pub record HeldWith (t : ℕ) (fs : List File) (due : List ℕ) : Type 0 where
+  pub marks : marksAt t fs ≡ due
+  pub kept : isKept t fs ≡ some due
 
 abbrev pub HeldSinceKept : Type 0
 HeldSinceKept =
     (s : Start) (cs : List Call) → StartFits s → AllFit cs → Accepted (begun s) → (t : ℕ)
-    → isKept t (filesOf (left s cs)) ≡ heldAfter t false (begun s .state) cs
+    → HeldWith t (filesOf (left s cs)) (heldAfter t [] (begun s .state) cs)
 
 pub record ThirdDemand : Type 0 where
   pub after-every-list : AfterEveryList DemandThree
   pub same-tables : SameTables
+  pub no-table-differs : NoTableDiffers
   pub held-since-kept : HeldSinceKept
 
 -- ---- positions (02, wish 5)

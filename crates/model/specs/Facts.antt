@@ -7,6 +7,7 @@ use mathlib.Core.Bool.{true}
 use lib.ListN.{length, take, drop, replicate}
 use Rattle.model.specs.Records.{Rec, headerBytes}
 use Rattle.model.specs.Rows.{tableBytes}
+use Rattle.model.specs.Marks.{isMark}
 use Rattle.model.specs.Timeslice.{timeslice}
 use Rattle.model.specs.Legal.{legal, lastTime}
 use Rattle.model.specs.Pages.{indexNeed}
@@ -15,12 +16,13 @@ use Rattle.model.specs.Memory.{State, Lendable, Passable, noEntry, logOf
 use Rattle.model.specs.Files.{File, filesOf}
 use Rattle.model.specs.Audit.{Audited}
 
--- a count file of the log rs, whose last time is `last`: later than `before`, and the table of its time
+-- a count file of the log rs, whose last time is `last`: later than `before`, the table of its time, and of a mark
 pub record FileIs (R last : ℕ) (rs : List Rec) (before : ℕ) (f : File) : Type 0 where
   pub later : before < f .entry .time
   pub held : f .entry .time ≤ last
   pub rows-are : f .entry .rows ≡ length (timeslice (f .entry .time) rs)
   pub area-is : f .area ≡ tableBytes R (timeslice (f .entry .time) rs)
+  pub mark-is : isMark (f .entry .mark) ≡ true
 
 -- each later than the one before it
 unfoldable pub FilesAre : (R last : ℕ) (rs : List Rec) → ℕ → List File → Type 0

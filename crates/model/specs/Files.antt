@@ -1,5 +1,5 @@
--- Keep and drop a count file (01, "Count files", "The questions, in order"). Promised where the audit passes the
--- memory. Assumes nothing.
+-- Keep and drop a count file (01, "Count files", "The questions, in order"), and drop by mark (02, wish 3). Promised where the
+-- audit passes the memory. Assumes nothing.
 use Prim.Native.Nat.{ℕ, suc, _+_, _-_, _*_}
 use mathlib.Core.List.{List, [], _∷_, _++_, map}
 use mathlib.Core.Bool.{Bool, false, not, cond, _&&_, _||_}
@@ -10,8 +10,9 @@ use Rattle.model.specs.declared.Numbers.{Numbers}
 use Rattle.model.specs.declared.Entry.{Entry}
 use Rattle.model.specs.Answers.{answers, Question, question, firstNo, unlessNo}
 use Rattle.model.specs.Rows.{tableBytes}
+use Rattle.model.specs.Marks.{goes, isMark}
 use Rattle.model.specs.Memory.{Memory, State, state, noEntry, standing, capacityOf}
-use Rattle.model.specs.Starts.{After, after}
+use Rattle.model.specs.Starts.{Result, After, after}
 use Rattle.model.specs.Changes.{unchanged}
 use Rattle.model.specs.Queries.{rowsAt}
 
@@ -67,10 +68,11 @@ isKept t (f ∷ fs) = eqb (f .entry .time) t || isKept t fs
 abbrev pub timeHeld : State → ℕ → Question
 timeHeld st t = question 12 (leb t (st .numbers .last))
 
-abbrev pub keepQuestions : State → ℕ → List Question
-keepQuestions st t =
+-- and since wish 3 "18 in keep, after 12 and before 14, when the mark isn't 0, 5 or 7"
+abbrev pub keepQuestions : State → ℕ → ℕ → List Question
+keepQuestions st t k =
     standing st
-    ++ (timeHeld st t ∷ question 14 (not (eqb t 0) && not (isKept t (filesOf st)))
+    ++ (timeHeld st t ∷ question 18 (isMark k) ∷ question 14 (not (eqb t 0) && not (isKept t (filesOf st)))
     ∷ question 15 (ltb (st .numbers .files) (capacityOf (st .numbers .limit) (st .memory))) ∷ [])
 
 -- "ascending by time"; "Keeping shifts the later files up"
@@ -78,25 +80,29 @@ unfoldable pub fileIn : File → List File → List File
 fileIn f [] = f ∷ []
 fileIn f (x ∷ xs) = cond (ltb (x .entry .time) (f .entry .time)) (x ∷ fileIn f xs) (f ∷ (x ∷ xs))
 
--- the file of time t: its entry and its table
-abbrev pub fileAt : State → ℕ → File
-fileAt st t =
-    record { entry = record { time = t; rows = length (rowsAt st t) }; area = tableBytes (st .numbers .limit) (rowsAt st t) }
+-- the file of time t and mark k: its entry and its table
+abbrev pub fileAt : State → ℕ → ℕ → File
+fileAt st t k =
+    record {
+      entry = record { time = t; rows = length (rowsAt st t); mark = k };
+      area = tableBytes (st .numbers .limit) (rowsAt st t);
+    }
 
-unfoldable pub keepOf : State → ℕ → After
-keepOf st t =
-    unlessNo (firstNo (keepQuestions st t))
-    (after (answers tt) (state (withCount (st .numbers) (st .numbers .files + 1)) (withFiles (fileIn (fileAt st t) (filesOf st)) (st .memory))))
+unfoldable pub keepOf : State → ℕ → ℕ → After
+keepOf st t k =
+    unlessNo (firstNo (keepQuestions st t k))
+    (after (answers tt) (state (withCount (st .numbers) (st .numbers .files + 1)) (withFiles (fileIn (fileAt st t k) (filesOf st)) (st .memory))))
     (unchanged st)
 
--- ---- drop
+-- ---- the files that a test lets stay
 
--- the files whose entries a test lets stay
+-- in order
 unfoldable pub staying : (Entry → Bool) → List File → List File
 staying stays [] = []
 staying stays (f ∷ fs) = cond (stays (f .entry)) (f ∷ staying stays fs) (staying stays fs)
 
--- "dropping shifts them down and zeroes the last used entry and area"
+-- "dropping shifts them down and zeroes the last used entry and area"; of a mark, "closing up the rest in order with zeros in the
+-- entries and areas set free"
 abbrev pub closedUp : ℕ → ℕ → List File → List File
 closedUp R files fs = fs ++ replicate (files - length fs) (noFile R)
 
@@ -107,6 +113,8 @@ reduced stays st =
     let left = staying stays (filesOf st) in
     state (withCount s (length left)) (withFiles (closedUp (s .limit) (s .files) left) (st .memory))
 
+-- ---- drop
+
 -- the entry is of another time
 abbrev pub notOf : ℕ → Entry → Bool
 notOf t e = not (eqb (e .time) t)
@@ -116,3 +124,23 @@ dropQuestions st t = standing st ++ (question 16 (isKept t (filesOf st)) ∷ [])
 
 unfoldable pub dropOf : State → ℕ → After
 dropOf st t = unlessNo (firstNo (dropQuestions st t)) (after (answers tt) (reduced (notOf t) st)) (unchanged st)
+
+-- ---- drop by mark (02, wish 3)
+
+abbrev pub isMarked : ℕ → Entry → Bool
+isMarked k e = eqb (e .mark) k
+
+-- the entry has another mark
+abbrev pub notMarked : ℕ → Entry → Bool
+notMarked k e = not (isMarked k e)
+
+-- "18 in the marked deletion, after 1, when it isn't 5 or 7"
+abbrev pub dropMarkedQuestions : State → ℕ → List Question
+dropMarkedQuestions st k = standing st ++ (question 18 (goes k) ∷ [])
+
+-- "deletes every file with a given mark … and answers how many went; none is a fine answer"
+unfoldable pub dropMarkedOf : State → ℕ → Result ℕ
+dropMarkedOf st k =
+    unlessNo (firstNo (dropMarkedQuestions st k))
+    (after (answers (length (staying (isMarked k) (filesOf st)))) (reduced (notMarked k) st))
+    (unchanged st)

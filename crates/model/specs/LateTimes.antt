@@ -17,7 +17,7 @@ use Rattle.model.specs.Changes.{unchanged}
 use Rattle.model.specs.Files.{timeHeld, keepQuestions, keepOf}
 use Rattle.model.specs.Units.{unitsAt, difference, unitsOf, differenceOf}
 use Rattle.model.specs.Promises.{refusedBy}
-use Rattle.model.specs.Calls.{Start, begun, Call, Said, changed, positioned, written, viewed, netted, totalled, differed, audited, answerOf}
+use Rattle.model.specs.Calls.{Start, begun, Call, Said, changed, positioned, written, viewed, netted, totalled, differed, cleared, audited, answerOf}
 
 -- ---- before the wish: "time at most the last? 12", of two times "a, then b? 12", and the time as it was asked
 
@@ -91,7 +91,7 @@ pub record TimeAskedByKeep (st : State) : Type 0 where
   pub standing-without : asks 12 (standing st) ≡ false
   pub table-without : (out : List ℕ) → asks 12 (tableQuestions st out) ≡ false
   pub net-change-without : (out work : List ℕ) → asks 12 (netQuestions st out work) ≡ false
-  pub keep-with : (t : ℕ) → asks 12 (keepQuestions st t) ≡ true
+  pub keep-with : (t k : ℕ) → asks 12 (keepQuestions st t k) ≡ true
 
 -- a call of a list was refused by question k
 unfoldable pub saidRefusedBy : ℕ → Said → Bool
@@ -102,14 +102,15 @@ saidRefusedBy k (viewed v) = refusedBy k (v .outcome)
 saidRefusedBy k (netted n) = refusedBy k (n .outcome)
 saidRefusedBy k (totalled o) = refusedBy k o
 saidRefusedBy k (differed o) = refusedBy k o
+saidRefusedBy k (cleared o) = refusedBy k o
 saidRefusedBy k (audited b) = false
 
 pub data IsKeep : Call → Type 0 where
-  keeps : (t : ℕ) → IsKeep (Call.keep t)
+  keeps : (t k : ℕ) → IsKeep (Call.keep t k)
 
 -- of all starts and calls only a keep is refused by 12; "Keeping a file for such a time remains refused by 12", and nothing
 -- changes
 pub record OnlyKeepMeets12 : Type 0 where
   pub no-start : (s : Start) → refusedBy 12 (begun s .outcome) ≡ false
   pub keep-alone : (st : State) (c : Call) → saidRefusedBy 12 (answerOf st c) ≡ true → IsKeep c
-  pub keep-refused : (st : State) (t : ℕ) → sound st ≡ true → st .numbers .last < t → keepOf st t ≡ unchanged st 12
+  pub keep-refused : (st : State) (t k : ℕ) → sound st ≡ true → st .numbers .last < t → keepOf st t k ≡ unchanged st 12

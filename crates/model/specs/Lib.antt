@@ -7,6 +7,7 @@ pub mod Timeslice
 pub mod Carry
 pub mod Legal
 pub mod Pages
+pub mod Marks
 pub mod Memory
 pub mod Positions
 pub mod Outset
@@ -25,6 +26,7 @@ pub mod Calls
 pub mod Chains
 pub mod Demands
 pub mod LateTimes
+pub mod OtherMarks
 pub mod Shape
 pub mod Numbering
 pub mod Tree

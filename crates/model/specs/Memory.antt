@@ -37,7 +37,7 @@ abbrev pub noNumbers : Numbers
 noNumbers = record { order = 0; page = 0; limit = 0; records = 0; last = 0; live = 0; files = 0 }
 
 abbrev pub noEntry : Entry
-noEntry = record { time = 0; rows = 0 }
+noEntry = record { time = 0; rows = 0; mark = 0 }
 
 -- ---- what a state's log says
 
@@ -102,13 +102,14 @@ standing st = question 1 (sound st) ∷ []
 
 -- ---- values of their types
 
--- what a machine can lend: bytes, 64-bit words, entries of a 64-bit time and a 32-bit count
+-- what a machine can lend: bytes, 64-bit words, entries of a 64-bit time, a 32-bit count and a 32-bit mark
 pub record Lendable (m : Memory) : Type 0 where
   pub log-bytes : AreBytes (m .log)
   pub index-words : (i : ℕ) → getD (m .index) i 0 < 2 ^ 64
   pub table-bytes : AreBytes (m .table)
   pub entry-times : (i : ℕ) → getD (m .catalogue) i noEntry .time < 2 ^ 64
   pub entry-rows : (i : ℕ) → getD (m .catalogue) i noEntry .rows < 2 ^ 32
+  pub entry-marks : (i : ℕ) → getD (m .catalogue) i noEntry .mark < 2 ^ 32
   pub area-bytes : AreBytes (m .areas)
 
 pub record Passable (s : Numbers) : Type 0 where

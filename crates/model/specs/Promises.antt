@@ -19,7 +19,7 @@ use Rattle.model.specs.Numbering.{nodeWord}
 use Rattle.model.specs.Tree.{nodesOf, NodesFrame}
 use Rattle.model.specs.Pages.{pagesOf}
 use Rattle.model.specs.Memory.{State, state, standing}
-use Rattle.model.specs.Starts.{After, after}
+use Rattle.model.specs.Starts.{Result, After, after}
 use Rattle.model.specs.Queries.{Written, Viewed, Netted, positionOf, tableOf, viewOf, netOf}
 use Rattle.model.specs.Audit.{Audited}
 use Rattle.model.specs.Units.{unitsOf, differenceOf}
@@ -86,7 +86,7 @@ pub record AppendPromise (more : ℕ) (st : State) (o : Outcome Unit) (st' : Sta
   pub framed : AppendFrame more st st'
   pub audited : (Audited st → after o st' ≡ defined)
 
--- ---- keep and drop
+-- ---- keep, drop and drop by mark
 
 -- 01 names the first `files` entries and areas
 pub record FilesFrame (files : ℕ) (st st' : State) : Type 0 where
@@ -97,7 +97,7 @@ pub record FilesFrame (files : ℕ) (st st' : State) : Type 0 where
   pub areas-framed : Beyond (8 * st .numbers .limit * files) (st .memory .areas) (st' .memory .areas)
 
 -- a call that writes no entry and no area past the first `files`
-pub record FilesPromise (files : ℕ) (st : State) (o : Outcome Unit) (st' : State) (defined : After) : Type 0 where
+pub record FilesPromise {A : Type 0} (files : ℕ) (st : State) (o : Outcome A) (st' : State) (defined : Result A) : Type 0 where
   pub asked : Asked st o
   pub refused : (isRefused o ≡ true → st' ≡ st)
   pub framed : FilesFrame files st st'

@@ -48,11 +48,12 @@ pub struct Record {
     pub count: u32,
 }
 
-// An entry of the catalogue of count files: the file's time and its number of rows.
+// An entry of the catalogue of count files: the file's time, its number of rows and its mark (02, wish 3).
 #[repr(C)]
 pub struct Entry {
     pub time: u64,
     pub rows: u32,
+    pub mark: u32,
 }
 
 // Why a call is refused: the first of its questions that was answered no. Each variant's number in 01
@@ -75,6 +76,7 @@ pub enum Refusal {
     CatalogueFull,
     NotKept,
     WrongRecord(RecordNumber),
+    WrongMark,
 }
 
 pub enum Checked {
@@ -161,6 +163,22 @@ pub enum UnitsAnswer {
 pub enum DifferenceAnswer {
     Difference(i64),
     Refused(Refusal),
+}
+
+// How many count files of a mark went.
+pub enum DropMarkedAnswer {
+    Gone(u32),
+    Refused(Refusal),
+}
+
+impl Entry {
+    pub const PERMANENT: u32 = 0;
+
+    // goes on Friday
+    pub const FRIDAY: u32 = 5;
+
+    // goes on Sunday
+    pub const SUNDAY: u32 = 7;
 }
 
 impl Settings {

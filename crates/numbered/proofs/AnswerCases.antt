@@ -5,7 +5,7 @@ use mathlib.Core.List.{List, [], _∷_, map}
 use lib.IntN.{pos, negsuc}
 use Rattle.model.specs.declared.Numbers.{Numbers}
 use Rattle.model.specs.declared.Refusal.{Refusal}
-use Rattle.model.specs.declared.Refusal.the-variants.{Header, Order, PageSize, RowLimit, Memory, TimeNotAbove, ArticlePresent, ArticleAbsent, RowsFull, LogFull, IndexFull, TimeAfterLast, OutputShort, NotToKeep, CatalogueFull, NotKept, WrongRecord}
+use Rattle.model.specs.declared.Refusal.the-variants.{Header, Order, PageSize, RowLimit, Memory, TimeNotAbove, ArticlePresent, ArticleAbsent, RowsFull, LogFull, IndexFull, TimeAfterLast, OutputShort, NotToKeep, CatalogueFull, NotKept, WrongRecord, WrongMark}
 use Rattle.model.specs.declared.Verdict.the-variants as verdict
 use Rattle.model.specs.declared.PositionAnswer.the-variants as position
 use Rattle.model.specs.declared.Side.the-variants.{Earlier, Later}
@@ -15,6 +15,7 @@ use Rattle.model.specs.declared.ViewAnswer.the-variants as view
 use Rattle.model.specs.declared.NetChangeAnswer.the-variants as net
 use Rattle.model.specs.declared.UnitsAnswer.the-variants as units
 use Rattle.model.specs.declared.DifferenceAnswer.the-variants as difference
+use Rattle.model.specs.declared.DropMarkedAnswer.the-variants as marked
 use Rattle.lending.specs.declared.LengthsAnswer.the-variants as lengths
 use Rattle.model.specs.Answers.{refusal}
 use Rattle.answers.specs.Question.{questionOf, recordIn, numberOf}
@@ -24,15 +25,15 @@ use Rattle.numbered.specs.declared.answer.YkTable.{YkTable}
 use Rattle.numbered.specs.declared.outset.YkView.{YkView}
 use Rattle.numbered.specs.declared.answer.YkNetChange.{YkNetChange}
 use Rattle.numbered.specs.declared.needed.YkLengths.{YkLengths}
-use Rattle.numbered.specs.Answers.{changeOut, positionOut, laterOf, tableOut, placeOut, areaOut, spanOf, viewOut, netChangeOut, unitsOut, differenceOut, lengthsOut}
+use Rattle.numbered.specs.Answers.{changeOut, dropMarkedOut, positionOut, laterOf, tableOut, placeOut, areaOut, spanOf, viewOut, netChangeOut, unitsOut, differenceOut, lengthsOut}
 
 -- every refusal's number, as 01 numbers its questions
 abbrev refusals : List Refusal
 refusals =
     Header ∷ Order ∷ PageSize ∷ RowLimit ∷ Memory ∷ TimeNotAbove ∷ ArticlePresent ∷ ArticleAbsent ∷ RowsFull ∷ LogFull ∷ IndexFull ∷ TimeAfterLast ∷ OutputShort
-    ∷ NotToKeep ∷ CatalogueFull ∷ NotKept ∷ WrongRecord (record { 0 = 33 }) ∷ []
+    ∷ NotToKeep ∷ CatalogueFull ∷ NotKept ∷ WrongRecord (record { 0 = 33 }) ∷ WrongMark ∷ []
 
-numbers-are : map numberOf refusals ≡ 1 ∷ 2 ∷ 3 ∷ 4 ∷ 5 ∷ 6 ∷ 7 ∷ 8 ∷ 9 ∷ 10 ∷ 11 ∷ 12 ∷ 13 ∷ 14 ∷ 15 ∷ 16 ∷ 17 ∷ []
+numbers-are : map numberOf refusals ≡ 1 ∷ 2 ∷ 3 ∷ 4 ∷ 5 ∷ 6 ∷ 7 ∷ 8 ∷ 9 ∷ 10 ∷ 11 ∷ 12 ∷ 13 ∷ 14 ∷ 15 ∷ 16 ∷ 17 ∷ 18 ∷ []
 unfolding questionOf refusal
 numbers-are = refl
 
@@ -46,6 +47,15 @@ changed = refl
 wrong : changeOut s (verdict.Refused (WrongRecord (record { 0 = 33 }))) ≡ record { numbers = s; question = 17; «record» = 33 }
 unfolding changeOut questionOf recordIn refusal
 wrong = refl
+
+-- 3 went, and 1 is left
+cleared : dropMarkedOut s (marked.Gone 3) ≡ record { numbers = s; question = 0; gone = 3 }
+unfolding dropMarkedOut
+cleared = refl
+
+not-cleared : dropMarkedOut s (marked.Refused WrongMark) ≡ record { numbers = s; question = 18; gone = 0 }
+unfolding dropMarkedOut questionOf refusal
+not-cleared = refl
 
 placed : positionOut (position.At (record { page = record { 0 = 7 }; requests = 15 })) ≡ record { question = 0; page = 7; requests = 15 }
 unfolding positionOut

@@ -22,6 +22,8 @@ use Rattle.model.specs.declared.UnitsAnswer.{UnitsAnswer}
 use Rattle.model.specs.declared.UnitsAnswer.the-variants as units
 use Rattle.model.specs.declared.DifferenceAnswer.{DifferenceAnswer}
 use Rattle.model.specs.declared.DifferenceAnswer.the-variants as difference
+use Rattle.model.specs.declared.DropMarkedAnswer.{DropMarkedAnswer}
+use Rattle.model.specs.declared.DropMarkedAnswer.the-variants as marked
 use Rattle.lending.specs.declared.LengthsAnswer.{LengthsAnswer}
 use Rattle.lending.specs.declared.LengthsAnswer.the-variants as lengths
 use Rattle.answers.specs.Question.{numberOf, recordOf}
@@ -32,12 +34,17 @@ use Rattle.numbered.specs.declared.outset.YkView.{YkView}
 use Rattle.numbered.specs.declared.answer.YkNetChange.{YkNetChange}
 use Rattle.numbered.specs.declared.answer.YkUnits.{YkUnits}
 use Rattle.numbered.specs.declared.answer.YkDifference.{YkDifference}
+use Rattle.numbered.specs.declared.answer.YkDropMarked.{YkDropMarked}
 use Rattle.numbered.specs.declared.outset.Span.{Span}
 use Rattle.numbered.specs.declared.needed.YkLengths.{YkLengths}
 
 unfoldable pub changeOut : Numbers → Verdict → YkChange
 changeOut s verdict.Accepted = record { numbers = s; question = 0; «record» = 0 }
 changeOut s (verdict.Refused why) = record { numbers = s; question = numberOf why; «record» = recordOf why }
+
+unfoldable pub dropMarkedOut : Numbers → DropMarkedAnswer → YkDropMarked
+dropMarkedOut s (marked.Gone k) = record { numbers = s; question = 0; gone = k }
+dropMarkedOut s (marked.Refused why) = record { numbers = s; question = numberOf why; gone = 0 }
 
 unfoldable pub positionOut : PositionAnswer → YkPosition
 positionOut (position.At p) = record { question = 0; page = p .page .0; requests = p .requests }

@@ -16,9 +16,10 @@ use Rattle.model.specs.declared.ViewAnswer.{ViewAnswer}
 use Rattle.model.specs.declared.NetChangeAnswer.{NetChangeAnswer}
 use Rattle.model.specs.declared.UnitsAnswer.{UnitsAnswer}
 use Rattle.model.specs.declared.DifferenceAnswer.{DifferenceAnswer}
-use Rattle.model.specs.Answers.{Outcome, verdictOutcome, positionOutcome, tableOutcome, viewOutcome, netChangeOutcome, unitsOutcome, differenceOutcome}
+use Rattle.model.specs.declared.DropMarkedAnswer.{DropMarkedAnswer}
+use Rattle.model.specs.Answers.{Outcome, verdictOutcome, positionOutcome, tableOutcome, viewOutcome, netChangeOutcome, unitsOutcome, differenceOutcome, dropMarkedOutcome}
 use Rattle.model.specs.Memory.{Memory, State, state}
-use Rattle.model.specs.Starts.{After, after, openOf}
+use Rattle.model.specs.Starts.{Result, After, after, openOf}
 use Rattle.model.specs.FirstWrong.{DueAt17}
 use Rattle.model.specs.Promises.{AppendPromise, FilesPromise, PositionPromise, TablePromise, ViewPromise, NetChangePromise, UnitsPromise, DifferencePromise}
 use Rattle.lending.specs.declared.LengthsAnswer.{LengthsAnswer}
@@ -30,8 +31,9 @@ use Rattle.numbered.specs.declared.outset.YkView.{YkView}
 use Rattle.numbered.specs.declared.answer.YkNetChange.{YkNetChange}
 use Rattle.numbered.specs.declared.answer.YkUnits.{YkUnits}
 use Rattle.numbered.specs.declared.answer.YkDifference.{YkDifference}
+use Rattle.numbered.specs.declared.answer.YkDropMarked.{YkDropMarked}
 use Rattle.numbered.specs.declared.needed.YkLengths.{YkLengths}
-use Rattle.numbered.specs.Answers.{changeOut, positionOut, tableOut, viewOut, netChangeOut, unitsOut, differenceOut, lengthsOut}
+use Rattle.numbered.specs.Answers.{changeOut, positionOut, tableOut, viewOut, netChangeOut, unitsOut, differenceOut, dropMarkedOut, lengthsOut}
 
 -- a call that may change the store; Kept is what its promise says of the outcome and of the store then
 pub record ChangeCrossed (Kept : Outcome Unit → State → Type 0) (r : YkChange) (memory' : Memory) : Type 0 where
@@ -57,6 +59,13 @@ AppendCrossed more r st memory' defined = ChangeCrossed (λ o st'. AppendPromise
 -- keep and drop
 abbrev pub FilesCrossed : ℕ → YkChange → State → Memory → After → Type 0
 FilesCrossed files r st memory' defined = ChangeCrossed (λ o st'. FilesPromise files st o st' defined) r memory'
+
+-- drop by mark
+pub record DropMarkedCrossed (files : ℕ) (r : YkDropMarked) (st : State) (memory' : Memory) (defined : Result ℕ) : Type 0 where
+  pub numbers : Numbers
+  pub answer : DropMarkedAnswer
+  pub is : r ≡ dropMarkedOut numbers answer
+  pub kept : FilesPromise files st (dropMarkedOutcome answer) (state numbers memory') defined
 
 pub record PositionCrossed (r : YkPosition) (st : State) (t : ℕ) : Type 0 where
   pub answer : PositionAnswer

@@ -1,11 +1,13 @@
 // The answers in numbers: for each answer of a call the struct that crosses to C in its place.
 ghost use mathlib.Core.Path.{_≡_};
-ghost use Rattle.numbered.specs.Answers.{changeOut, positionOut, laterOf, tableOut, netChangeOut, unitsOut, differenceOut, yesOut};
+ghost use Rattle.numbered.specs.Answers.{changeOut, positionOut, laterOf, tableOut, netChangeOut, unitsOut, differenceOut, dropMarkedOut, yesOut};
 use answers::question;
 use catalogue::Catalogue;
+use filing::Cleared;
 use filing::Filed;
 use model::Changed;
 use model::DifferenceAnswer;
+use model::DropMarkedAnswer;
 use model::NetChangeAnswer;
 use model::Numbers;
 use model::PositionAnswer;
@@ -61,6 +63,14 @@ pub struct YkDifference {
     pub units: i64,
 }
 
+// The answer of a drop by mark: the numbers then, and how many count files went.
+#[repr(C)]
+pub struct YkDropMarked {
+    pub numbers: Numbers,
+    pub question: u8,
+    pub gone: u32,
+}
+
 // What a start answers, and how many entries of the catalogue are to be cleared.
 pub struct Begun {
     pub change: YkChange,
@@ -70,6 +80,12 @@ pub struct Begun {
 // What keep or drop answers, and the catalogue to be written back.
 pub struct Refiled {
     pub change: YkChange,
+    pub catalogue: Catalogue,
+}
+
+// What a drop by mark answers, and the catalogue to be written back.
+pub struct ClearedOut {
+    pub answer: YkDropMarked,
     pub catalogue: Catalogue,
 }
 
@@ -136,6 +152,42 @@ pub fn refiled_change(r: Refiled) -> YkChange
 {
     let change = r.change;
     change
+}
+
+fn drop_marked_out(numbers: Numbers, answer: DropMarkedAnswer) -> YkDropMarked
+    ensures { λ r. ⌜ r ≡ dropMarkedOut numbers answer ⌝ }
+{
+    match answer {
+        DropMarkedAnswer::Gone(k) => YkDropMarked {
+            numbers,
+            question: 0,
+            gone: k,
+        },
+        DropMarkedAnswer::Refused(why) => YkDropMarked {
+            numbers,
+            question: question(why),
+            gone: 0,
+        },
+    }
+}
+
+// What a drop by mark answered, in numbers.
+pub fn clear_out(x: Cleared) -> ClearedOut
+    ensures { λ r. ⌜ (r .answer ≡ dropMarkedOut (x .numbers) (x .answer)) × (r .catalogue ≡ x .catalogue) ⌝ }
+{
+    let answer = x.answer;
+    let catalogue = x.catalogue;
+    ClearedOut {
+        answer: drop_marked_out(x.numbers, answer),
+        catalogue,
+    }
+}
+
+pub fn cleared_answer(r: ClearedOut) -> YkDropMarked
+    ensures { λ x. ⌜ x ≡ r .answer ⌝ }
+{
+    let answer = r.answer;
+    answer
 }
 
 pub fn position_out(answer: PositionAnswer) -> YkPosition

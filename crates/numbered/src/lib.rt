@@ -7,13 +7,14 @@ ghost use lib.ListN.{length};
 ghost use Rattle.model.specs.declared.Entry.{Entry};
 ghost use Rattle.model.specs.Starts.{freshOf, openOf};
 ghost use Rattle.model.specs.Changes.{insertOf, deleteOf, updateOf};
-ghost use Rattle.model.specs.Files.{keepOf, dropOf};
+ghost use Rattle.model.specs.Files.{keepOf, dropOf, dropMarkedOf};
 ghost use Rattle.model.specs.Audit.{auditOf};
 ghost use Rattle.catalogue.specs.Files.{byValue, writtenBack};
 ghost use Rattle.numbered.specs.Answers.{yesOut};
 ghost use Rattle.numbered.specs.Lent.{memoryOf, cleared, memoryLent, memoryLeft, storeLent};
-ghost use Rattle.numbered.specs.Crossed.{StartCrossed, AppendCrossed, PositionCrossed, TableCrossed, ViewCrossed, NetChangeCrossed, UnitsCrossed, DifferenceCrossed, FilesCrossed, LengthsCrossed};
+ghost use Rattle.numbered.specs.Crossed.{StartCrossed, AppendCrossed, PositionCrossed, TableCrossed, ViewCrossed, NetChangeCrossed, UnitsCrossed, DifferenceCrossed, FilesCrossed, DropMarkedCrossed, LengthsCrossed};
 use answer::Begun;
+use answer::ClearedOut;
 use answer::Refiled;
 use answer::YkChange;
 use answer::YkDifference;
@@ -230,13 +231,14 @@ pub fn keep(
     c: Catalogue,
     areas: &mut [u8],
     t: u64,
+    mark: u32,
 ) -> Refiled
     ensures { λ r. ⌜ ((catalogue : List Entry) → c ≡ byValue catalogue
         → FilesCrossed (s .files + 1) (r .change) (storeLent s log index current catalogue (now (areas .entry)))
         (memoryLeft log index current (writtenBack catalogue (r .catalogue)) (now (areas .exit)))
-        (keepOf (storeLent s log index current catalogue (now (areas .entry))) t)) ⌝ }
+        (keepOf (storeLent s log index current catalogue (now (areas .entry))) t mark)) ⌝ }
 {
-    answer::refile(filing::keep(s, log, index, current, c, areas, t))
+    answer::refile(filing::keep(s, log, index, current, c, areas, t, mark))
 }
 
 pub fn drop(
@@ -254,6 +256,23 @@ pub fn drop(
         (dropOf (storeLent s log index current catalogue (now (areas .entry))) t)) ⌝ }
 {
     answer::refile(filing::drop(s, log, index, current, c, areas, t))
+}
+
+pub fn drop_marked(
+    s: Numbers,
+    log: &[u8],
+    index: &[u64],
+    current: &[u8],
+    c: Catalogue,
+    areas: &mut [u8],
+    mark: u32,
+) -> ClearedOut
+    ensures { λ r. ⌜ ((catalogue : List Entry) → c ≡ byValue catalogue
+        → DropMarkedCrossed (s .files) (r .answer) (storeLent s log index current catalogue (now (areas .entry)))
+        (memoryLeft log index current (writtenBack catalogue (r .catalogue)) (now (areas .exit)))
+        (dropMarkedOf (storeLent s log index current catalogue (now (areas .entry))) mark)) ⌝ }
+{
+    answer::clear_out(filing::drop_marked(s, log, index, current, c, areas, mark))
 }
 
 pub fn audit(

@@ -3,13 +3,13 @@
 use Prim.Native.Nat.{ℕ}
 use mathlib.Core.Path.{_≡_}
 use mathlib.Core.List.{List}
-use Rattle.model.specs.Answers.{verdictOutcome, positionOutcome, tableOutcome, viewOutcome, netChangeOutcome, unitsOutcome, differenceOutcome}
+use Rattle.model.specs.Answers.{verdictOutcome, positionOutcome, tableOutcome, viewOutcome, netChangeOutcome, unitsOutcome, differenceOutcome, dropMarkedOutcome}
 use Rattle.model.specs.Memory.{State}
 use Rattle.model.specs.Calls as calls
 use Rattle.model.specs.Chains.{Carried}
 use Rattle.tables.specs.Parts.{viewedPart}
 use Rattle.store.specs.declared.Call.{Call}
-use Rattle.store.specs.declared.Call.the-variants.{Insert, Delete, Update, Position, Table, View, NetChange, Units, Difference, Keep, Drop, Audit}
+use Rattle.store.specs.declared.Call.the-variants.{Insert, Delete, Update, Position, Table, View, NetChange, Units, Difference, Keep, Drop, DropMarked, Audit}
 use Rattle.store.specs.declared.Said.{Said}
 use Rattle.store.specs.declared.Said.the-variants as said
 
@@ -24,8 +24,9 @@ callOf (View time) out work = calls.Call.view time
 callOf (NetChange a b) out work = calls.Call.netChange a b out work
 callOf (Units time) out work = calls.Call.units time
 callOf (Difference a b) out work = calls.Call.difference a b
-callOf (Keep time) out work = calls.Call.keep time
+callOf (Keep time mark) out work = calls.Call.keep time mark
 callOf (Drop time) out work = calls.Call.drop time
+callOf (DropMarked mark) out work = calls.Call.dropMarked mark
 callOf Audit out work = calls.Call.audit
 
 -- the answer on a store of this row limit, areas and current table, with what output and workspace then hold
@@ -37,6 +38,7 @@ saidOf R areas current out' work' (said.View x) = calls.viewed (record { outcome
 saidOf R areas current out' work' (said.NetChange x) = calls.netted (record { outcome = netChangeOutcome x; output = out'; workspace = work' })
 saidOf R areas current out' work' (said.Units x) = calls.totalled (unitsOutcome x)
 saidOf R areas current out' work' (said.Difference x) = calls.differed (differenceOutcome x)
+saidOf R areas current out' work' (said.DropMarked x) = calls.cleared (dropMarkedOutcome x)
 saidOf R areas current out' work' (said.Audit b) = calls.audited b
 
 -- an output or a workspace that a call has no use for stays as it was
@@ -50,8 +52,9 @@ OutputsKept (View time) out out' work work' = (out' ≡ out) × (work' ≡ work)
 OutputsKept (NetChange a b) out out' work work' = Unit
 OutputsKept (Units time) out out' work work' = (out' ≡ out) × (work' ≡ work)
 OutputsKept (Difference a b) out out' work work' = (out' ≡ out) × (work' ≡ work)
-OutputsKept (Keep time) out out' work work' = (out' ≡ out) × (work' ≡ work)
+OutputsKept (Keep time mark) out out' work work' = (out' ≡ out) × (work' ≡ work)
 OutputsKept (Drop time) out out' work work' = (out' ≡ out) × (work' ≡ work)
+OutputsKept (DropMarked mark) out out' work work' = (out' ≡ out) × (work' ≡ work)
 OutputsKept Audit out out' work work' = (out' ≡ out) × (work' ≡ work)
 
 -- the call was made on st, answered x and left st'

@@ -10,9 +10,11 @@ ghost use Rattle.catalogue.specs.Files.{byValue, writtenBack};
 ghost use Rattle.store.specs.declared.Said.the-variants as said;
 ghost use Rattle.store.specs.Making.{MadeAs};
 use catalogue::Catalogue;
+use filing::Cleared;
 use filing::Filed;
 use model::Changed;
 use model::DifferenceAnswer;
+use model::DropMarkedAnswer;
 use model::NetChangeAnswer;
 use model::Numbers;
 use model::PositionAnswer;
@@ -32,8 +34,9 @@ pub enum Call {
     NetChange { a: u64, b: u64 },
     Units(u64),
     Difference { a: u64, b: u64 },
-    Keep(u64),
+    Keep { time: u64, mark: u32 },
     Drop(u64),
+    DropMarked(u32),
     Audit,
 }
 
@@ -46,6 +49,7 @@ pub enum Said {
     NetChange(NetChangeAnswer),
     Units(UnitsAnswer),
     Difference(DifferenceAnswer),
+    DropMarked(DropMarkedAnswer),
     Audit(bool),
 }
 
@@ -79,6 +83,19 @@ fn filed(r: Filed) -> Made
         numbers,
         catalogue,
         said: Said::Changed(verdict),
+    }
+}
+
+fn cleared(r: Cleared) -> Made
+    ensures { λ m. ⌜ m ≡ record { numbers = r .numbers; catalogue = r .catalogue; said = said.DropMarked (r .answer) } ⌝ }
+{
+    let answer = r.answer;
+    let numbers = r.numbers;
+    let catalogue = r.catalogue;
+    Made {
+        numbers,
+        catalogue,
+        said: Said::DropMarked(answer),
     }
 }
 
@@ -174,8 +191,11 @@ pub fn make(
             let x = units::between(s, log, index, current, c, areas, a, b);
             answered(s, c, Said::Difference(x))
         }
-        Call::Keep(t) => filed(filing::keep(s, log, index, current, c, areas, t)),
+        Call::Keep { time, mark } => {
+            filed(filing::keep(s, log, index, current, c, areas, time, mark))
+        }
         Call::Drop(t) => filed(filing::drop(s, log, index, current, c, areas, t)),
+        Call::DropMarked(k) => cleared(filing::drop_marked(s, log, index, current, c, areas, k)),
         Call::Audit => {
             let passed = auditing::audit(s, log, index, current, c, areas);
             answered(s, c, Said::Audit(passed))

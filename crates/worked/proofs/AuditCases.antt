@@ -21,7 +21,7 @@ use Rattle.worked.proofs.QuestionOne.{numbersOf, full}
 
 -- 01's log with 20 kept: capacity 2, one file, the second area and the third entry foreign
 abbrev kept20 : Memory
-kept20 = keepOf worked 20 .state .memory
+kept20 = keepOf worked 20 5 .state .memory
 
 abbrev numbers20 : Numbers
 numbers20 = numbersOf 3 2 4 8 60 2 1
@@ -51,13 +51,14 @@ as-it-is = refl
 -- may hold anything: log bytes past record n - 1, words past the last node, table bytes past 8 × R, entries past the
 -- capacity, unused areas
 anything : (withLog (set (kept20 .log) 216 99) ∷ withIndex (set (kept20 .index) 6 99) ∷ withTable (set (kept20 .table) 32 99)
-    ∷ withCatalogue (entry 20 2 ∷ entry 0 0 ∷ entry 7 7 ∷ []) ∷ withAreas (set (kept20 .areas) 32 99) ∷ withAreas (set (kept20 .areas) 68 99) ∷ []) ≡ replicate 6 true
+    ∷ withCatalogue (entry 20 2 5 ∷ entry 0 0 0 ∷ entry 7 7 7 ∷ []) ∷ withAreas (set (kept20 .areas) 32 99) ∷ withAreas (set (kept20 .areas) 68 99) ∷ [])
+    ≡ replicate 6 true
 unfolding computing
 anything = refl
 
 -- and may be as short as n and R allow
-least : (withLog (take 216 (kept20 .log)) ∷ withIndex (take 6 (kept20 .index)) ∷ withTable (take 32 (kept20 .table)) ∷ withCatalogue (entry 20 2 ∷ [])
-    ∷ withAreas (take 32 (kept20 .areas)) ∷ []) ≡ replicate 5 true
+least : (withLog (take 216 (kept20 .log)) ∷ withIndex (take 6 (kept20 .index)) ∷ withTable (take 32 (kept20 .table))
+    ∷ withCatalogue (entry 20 2 5 ∷ []) ∷ withAreas (take 32 (kept20 .areas)) ∷ []) ≡ replicate 5 true
 unfolding computing
 least = refl
 
@@ -71,17 +72,34 @@ wrong-bytes = refl
 
 -- a file of time 0, after the last time, with a wrong row count, twice, out of order; a stale entry; a wrong row in an
 -- area, a stale byte after its rows
-wrong-files : (withCatalogue (entry 0 2 ∷ entry 0 0 ∷ []) ∷ withCatalogue (entry 61 2 ∷ entry 0 0 ∷ []) ∷ withCatalogue (entry 20 3 ∷ entry 0 0 ∷ [])
-    ∷ withCatalogue (entry 20 2 ∷ entry 0 1 ∷ []) ∷ withCatalogue (entry 20 2 ∷ entry 30 0 ∷ []) ∷ withAreas (set (kept20 .areas) 4 13) ∷ withAreas (set (kept20 .areas) 31 1) ∷ [])
+wrong-files : (withCatalogue (entry 0 2 5 ∷ entry 0 0 0 ∷ []) ∷ withCatalogue (entry 61 2 5 ∷ entry 0 0 0 ∷ [])
+    ∷ withCatalogue (entry 20 3 5 ∷ entry 0 0 0 ∷ []) ∷ withCatalogue (entry 20 2 5 ∷ entry 0 1 0 ∷ []) ∷ withCatalogue (entry 20 2 5 ∷ entry 30 0 0 ∷ [])
+    ∷ withAreas (set (kept20 .areas) 4 13) ∷ withAreas (set (kept20 .areas) 31 1) ∷ [])
     ≡ replicate 7 false
 unfolding computing
 wrong-files = refl
 
+-- "0 permanent, 5 goes on Friday, 7 goes on Sunday" (02, wish 3)
+marked-well : map (λ (k : ℕ). withCatalogue (entry 20 2 k ∷ entry 0 0 0 ∷ [])) (0 ∷ 5 ∷ 7 ∷ []) ≡ replicate 3 true
+unfolding computing
+marked-well = refl
+
+-- an entry past the capacity may have any mark
+past-the-capacity : map (λ (k : ℕ). withCatalogue (entry 20 2 5 ∷ entry 0 0 0 ∷ entry 99 98 k ∷ [])) (0 ∷ 5 ∷ 6 ∷ 4294967295 ∷ []) ≡ replicate 4 true
+unfolding computing
+past-the-capacity = refl
+
+-- a file with another mark; a mark, whichever it is, in an entry behind the files
+wrong-marks : (map (λ (k : ℕ). withCatalogue (entry 20 2 k ∷ entry 0 0 0 ∷ [])) (1 ∷ 4 ∷ 6 ∷ 8 ∷ 9 ∷ 4294967295 ∷ [])
+    ++ map (λ (k : ℕ). withCatalogue (entry 20 2 5 ∷ entry 0 0 k ∷ [])) (5 ∷ 7 ∷ 9 ∷ [])) ≡ replicate 9 false
+unfolding computing
+wrong-marks = refl
+
 -- two files of one time, and out of order, each with its own table
 twice : map auditOf
-    (state (numbersOf 3 2 4 8 60 2 2) (record { log = kept20 .log; index = kept20 .index; table = kept20 .table; catalogue = entry 20 2 ∷ entry 20 2 ∷ []; areas = take 32 (kept20 .areas) ++ take 32 (kept20 .areas) })
-    ∷ state (numbersOf 3 2 4 8 60 2 2) (record { log = kept20 .log; index = kept20 .index; table = kept20 .table; catalogue = entry 20 2 ∷ entry 5 0 ∷ []; areas = take 32 (kept20 .areas) ++ zeros 32 })
-    ∷ state (numbersOf 3 2 4 8 60 2 2) (record { log = kept20 .log; index = kept20 .index; table = kept20 .table; catalogue = entry 5 0 ∷ entry 20 2 ∷ []; areas = zeros 32 ++ take 32 (kept20 .areas) }) ∷ [])
+    (state (numbersOf 3 2 4 8 60 2 2) (record { log = kept20 .log; index = kept20 .index; table = kept20 .table; catalogue = entry 20 2 5 ∷ entry 20 2 5 ∷ []; areas = take 32 (kept20 .areas) ++ take 32 (kept20 .areas) })
+    ∷ state (numbersOf 3 2 4 8 60 2 2) (record { log = kept20 .log; index = kept20 .index; table = kept20 .table; catalogue = entry 20 2 5 ∷ entry 5 0 7 ∷ []; areas = take 32 (kept20 .areas) ++ zeros 32 })
+    ∷ state (numbersOf 3 2 4 8 60 2 2) (record { log = kept20 .log; index = kept20 .index; table = kept20 .table; catalogue = entry 5 0 7 ∷ entry 20 2 5 ∷ []; areas = zeros 32 ++ take 32 (kept20 .areas) }) ∷ [])
     ≡ false ∷ false ∷ true ∷ []
 unfolding computing
 twice = refl

@@ -1,5 +1,5 @@
--- Lists of calls on 01's log: what each of the twelve calls answers with 20 kept, and of which times a file is held along keeps and
--- drops. Refusals told apart. Rows of the report's set. Assumes nothing.
+-- Lists of calls on 01's log: what each of the thirteen calls answers with 20 kept, and of which times a file is held, with which
+-- mark, along keeps, drops and drops by mark. Refusals told apart. Rows of the report's set. Assumes nothing.
 use Prim.Native.Nat.{ℕ, zero, suc, _≤_, _<_}
 use mathlib.Core.Path.{_≡_, refl, ap}
 use mathlib.Core.List.{List, [], _∷_, _++_, map}
@@ -15,10 +15,10 @@ use Rattle.model.specs.Rows.{Row, row}
 use Rattle.model.specs.Timeslice.{InReport}
 use Rattle.model.specs.Memory.{State, state}
 use Rattle.model.specs.Queries.{positionOf}
-use Rattle.model.specs.Files.{filesOf, isKept, keepOf, dropOf}
+use Rattle.model.specs.Files.{filesOf, isKept, keepOf, dropOf, dropMarkedOf}
 use Rattle.model.specs.Promises.{isRefused, refusedAmong, Asked, QueryAsked}
-use Rattle.model.specs.Calls.{Call, run, changed, positioned, written, viewed, netted, totalled, differed, audited, answerOf}
-use Rattle.model.specs.Demands.{heldNext, heldAfter}
+use Rattle.model.specs.Calls.{Call, run, changed, positioned, written, viewed, netted, totalled, differed, cleared, audited, answerOf}
+use Rattle.model.specs.Demands.{marksAt, heldNext, heldAfter, HeldWith}
 use Rattle.worked.proofs.Computing.{computing}
 use Rattle.worked.proofs.WorkedLog.{workedRecords, worked, located, table20, table45, change20to45, told, changes, seen}
 use Rattle.worked.proofs.WorkedStore.{kept20}
@@ -26,7 +26,7 @@ use Rattle.worked.proofs.QuestionOne.{unsound}
 
 -- ---- what each call answers
 
--- with 20 kept, and log space for two records more
+-- with 20 kept, marked 5, and log space for two records more
 abbrev pub roomy : State
 roomy =
     let m = kept20 .memory in
@@ -35,13 +35,14 @@ roomy =
 each-answers : map (answerOf roomy)
     (Call.insert 61 3 5 ∷ Call.insert 61 7 5 ∷ Call.delete 61 7 ∷ Call.delete 61 3 ∷ Call.update 61 9 8 ∷ Call.update 60 9 8 ∷ Call.position 35 ∷ Call.position 61
     ∷ Call.table 45 (replicate 33 77) ∷ Call.view 20 ∷ Call.netChange 20 45 (replicate 97 77) (replicate 65 77) ∷ Call.units 45 ∷ Call.units 61
-    ∷ Call.difference 20 45 ∷ Call.difference 20 61 ∷ Call.keep 40 ∷ Call.keep 20 ∷ Call.keep 61
-    ∷ Call.drop 20 ∷ Call.drop 40 ∷ Call.audit ∷ [])
+    ∷ Call.difference 20 45 ∷ Call.difference 20 61 ∷ Call.keep 40 5 ∷ Call.keep 40 7 ∷ Call.keep 40 0 ∷ Call.keep 20 7 ∷ Call.keep 61 5
+    ∷ Call.keep 40 9 ∷ Call.drop 20 ∷ Call.drop 40 ∷ Call.dropMarked 5 ∷ Call.dropMarked 7 ∷ Call.dropMarked 0 ∷ Call.audit ∷ [])
     ≡ changed (answers tt) ∷ changed (refuses 7) ∷ changed (answers tt) ∷ changed (refuses 8) ∷ changed (answers tt) ∷ changed (refuses 6) ∷ positioned (located 1 4)
     ∷ positioned (located 3 8) ∷ written (told 1 Earlier 3 table45)
     ∷ viewed (seen (Area 0) 2 Earlier 0 (3 ∷ 0 ∷ 0 ∷ 0 ∷ 12 ∷ 0 ∷ 0 ∷ 0 ∷ 7 ∷ 0 ∷ 0 ∷ 0 ∷ 50 ∷ 0 ∷ 0 ∷ 0 ∷ []))
-    ∷ netted (changes 3 change20to45 (table20 ++ table45)) ∷ totalled (answers 44) ∷ totalled (answers 50) ∷ differed (answers (negsuc 17)) ∷ differed (answers (negsuc 11)) ∷ changed (answers tt) ∷ changed (refuses 14) ∷ changed (refuses 12) ∷ changed (answers tt) ∷ changed (refuses 16)
-    ∷ audited true ∷ []
+    ∷ netted (changes 3 change20to45 (table20 ++ table45)) ∷ totalled (answers 44) ∷ totalled (answers 50) ∷ differed (answers (negsuc 17))
+    ∷ differed (answers (negsuc 11)) ∷ changed (answers tt) ∷ changed (answers tt) ∷ changed (answers tt) ∷ changed (refuses 14) ∷ changed (refuses 12)
+    ∷ changed (refuses 18) ∷ changed (answers tt) ∷ changed (refuses 16) ∷ cleared (answers 1) ∷ cleared (answers 0) ∷ cleared (refuses 18) ∷ audited true ∷ []
 unfolding computing
 each-answers = refl
 
@@ -54,27 +55,71 @@ audit-denies = refl
 
 -- two files fill the catalogue, so the keep of 50 is refused, as is the drop of 30, which is not kept
 abbrev filed : List Call
-filed = Call.keep 20 ∷ Call.keep 40 ∷ Call.keep 50 ∷ Call.insert 55 1 1 ∷ Call.drop 20 ∷ Call.drop 30 ∷ []
+filed = Call.keep 20 7 ∷ Call.keep 40 5 ∷ Call.keep 50 0 ∷ Call.insert 55 1 1 ∷ Call.drop 20 ∷ Call.drop 30 ∷ []
 
-held-along : map (λ (t : ℕ). heldAfter t false worked filed) (20 ∷ 30 ∷ 40 ∷ 50 ∷ []) ≡ false ∷ false ∷ true ∷ false ∷ []
+-- the marks due at each of these times: none where no file is held
+abbrev due : List Call → List (List ℕ)
+due cs = map (λ (t : ℕ). heldAfter t [] worked cs) (20 ∷ 30 ∷ 40 ∷ 50 ∷ [])
+
+held-along : due filed ≡ [] ∷ [] ∷ (5 ∷ []) ∷ [] ∷ []
 unfolding computing
 held-along = refl
 
 -- before the drop both were held
-held-before : map (λ (t : ℕ). heldAfter t false worked (Call.keep 20 ∷ Call.keep 40 ∷ Call.keep 50 ∷ [])) (20 ∷ 30 ∷ 40 ∷ 50 ∷ []) ≡ true ∷ false ∷ true ∷ false ∷ []
+held-before : due (Call.keep 20 7 ∷ Call.keep 40 5 ∷ Call.keep 50 0 ∷ []) ≡ (7 ∷ []) ∷ [] ∷ (5 ∷ []) ∷ [] ∷ []
 unfolding computing
 held-before = refl
+
+-- drops by 0 and by 9 are refused and end nothing; then one by 7 ends the file of 20 alone, or one by 5 that of 40
+abbrev marked : List Call
+marked = Call.keep 20 7 ∷ Call.keep 40 5 ∷ Call.dropMarked 0 ∷ Call.dropMarked 9 ∷ []
+
+held-marked : map due (marked ∷ (marked ++ (Call.dropMarked 7 ∷ [])) ∷ (marked ++ (Call.dropMarked 5 ∷ [])) ∷ [])
+    ≡ ((7 ∷ []) ∷ [] ∷ (5 ∷ []) ∷ [] ∷ []) ∷ ([] ∷ [] ∷ (5 ∷ []) ∷ [] ∷ []) ∷ ((7 ∷ []) ∷ [] ∷ [] ∷ [] ∷ []) ∷ []
+unfolding computing
+held-marked = refl
+
+-- 20 goes by 7 and is kept again, for good: neither the drops that follow nor a refused keep changes its mark; 40 goes by 5
+abbrev again : List Call
+again = marked ++ (Call.dropMarked 7 ∷ Call.keep 20 0 ∷ Call.dropMarked 7 ∷ Call.keep 20 5 ∷ Call.dropMarked 5 ∷ [])
+
+held-again : due again ≡ (0 ∷ []) ∷ [] ∷ [] ∷ [] ∷ []
+unfolding computing
+held-again = refl
 
 -- and so the catalogue says
 files-say : map (λ (t : ℕ). isKept t (filesOf (run worked filed))) (20 ∷ 30 ∷ 40 ∷ 50 ∷ []) ≡ false ∷ false ∷ true ∷ false ∷ []
 unfolding computing
 files-say = refl
 
+marks-say : map (λ (cs : List Call). map (λ (t : ℕ). marksAt t (filesOf (run worked cs))) (20 ∷ 30 ∷ 40 ∷ 50 ∷ [])) (filed ∷ marked ∷ again ∷ [])
+    ≡ ([] ∷ [] ∷ (5 ∷ []) ∷ [] ∷ []) ∷ ((7 ∷ []) ∷ [] ∷ (5 ∷ []) ∷ [] ∷ []) ∷ ((0 ∷ []) ∷ [] ∷ [] ∷ [] ∷ []) ∷ []
+unfolding computing
+marks-say = refl
+
+-- as demand 3 has it: a file with mark 0 is held, and where no mark is due no file
+held-for-good : HeldWith 20 (filesOf (run worked again)) (0 ∷ [])
+unfolding computing
+held-for-good = record { marks = refl; kept = refl }
+
+held-no-more : HeldWith 40 (filesOf (run worked again)) []
+unfolding computing
+held-no-more = record { marks = refl; kept = refl }
+
 -- a refused drop ends nothing, a refused keep begins nothing, and another time's calls neither
-held-next : (heldNext 20 true worked (Call.drop 20) ∷ heldNext 61 false worked (Call.keep 61) ∷ heldNext 20 true kept20 (Call.drop 20) ∷ heldNext 40 true kept20 (Call.drop 20)
-    ∷ heldNext 40 false kept20 (Call.keep 40) ∷ heldNext 30 false kept20 (Call.keep 40) ∷ []) ≡ true ∷ false ∷ false ∷ true ∷ true ∷ false ∷ []
+held-next : (heldNext 20 (5 ∷ []) worked (Call.drop 20) ∷ heldNext 61 [] worked (Call.keep 61 5) ∷ heldNext 20 (5 ∷ []) kept20 (Call.drop 20)
+    ∷ heldNext 40 (5 ∷ []) kept20 (Call.drop 20) ∷ heldNext 40 [] kept20 (Call.keep 40 7) ∷ heldNext 30 [] kept20 (Call.keep 40 7)
+    ∷ heldNext 40 [] kept20 (Call.keep 40 9) ∷ [])
+    ≡ (5 ∷ []) ∷ [] ∷ [] ∷ (5 ∷ []) ∷ (7 ∷ []) ∷ [] ∷ [] ∷ []
 unfolding computing
 held-next = refl
+
+-- a drop by mark ends the files of its mark, whatever their time, unless it is refused, by 18 or by 1
+held-next-marked : (heldNext 20 (5 ∷ []) kept20 (Call.dropMarked 5) ∷ heldNext 40 (5 ∷ []) kept20 (Call.dropMarked 5)
+    ∷ heldNext 20 (5 ∷ []) kept20 (Call.dropMarked 7) ∷ heldNext 20 (0 ∷ []) kept20 (Call.dropMarked 0) ∷ heldNext 10 (5 ∷ []) unsound (Call.dropMarked 5) ∷ [])
+    ≡ [] ∷ [] ∷ (5 ∷ []) ∷ (0 ∷ []) ∷ (5 ∷ []) ∷ []
+unfolding computing
+held-next-marked = refl
 
 -- ---- refusals
 
@@ -106,9 +151,14 @@ unfolding computing
 asked-in-time = record { asked = record { standing-first = refl; never-17 = refl }; never-12 = refl }
 
 -- a keep, which may be refused by 12
-asked-keep : Asked worked (keepOf worked 61 .outcome)
+asked-keep : Asked worked (keepOf worked 61 5 .outcome)
 unfolding computing
 asked-keep = record { standing-first = refl; never-17 = refl }
+
+-- a drop by mark, which may be refused by 18
+asked-drop-marked : Asked worked (dropMarkedOf worked 0 .outcome)
+unfolding computing
+asked-drop-marked = record { standing-first = refl; never-17 = refl }
 
 -- ---- the report's set
 

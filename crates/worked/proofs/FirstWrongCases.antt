@@ -22,7 +22,7 @@ use Rattle.worked.proofs.StartCases.{logWith}
 -- foreign memory of 6 words and 4 rows, with a log of order 3, two records a page
 abbrev lent : (R n last : ℕ) → List Rec → Memory
 lent R n last rs =
-    record { log = logWith 3 2 R n last rs; index = replicate 6 555; table = replicate 32 5; catalogue = entry 1 2 ∷ []; areas = replicate 32 9 }
+    record { log = logWith 3 2 R n last rs; index = replicate 6 555; table = replicate 32 5; catalogue = entry 1 2 9 ∷ []; areas = replicate 32 9 }
 
 abbrev opened : (R n last : ℕ) → List Rec → Outcome Unit
 opened R n last rs = openOf (lent R n last rs) .outcome

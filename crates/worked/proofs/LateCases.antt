@@ -83,12 +83,12 @@ net-changes = refl
 
 -- ---- with count files: one of the last time goes first, another does not
 
-views-kept : (viewOf (run worked (Call.keep 60 ∷ [])) 61 ∷ viewOf (run worked (Call.keep 20 ∷ Call.keep 60 ∷ [])) 61 ∷ viewOf kept20 61 ∷ [])
+views-kept : (viewOf (run worked (Call.keep 60 7 ∷ [])) 61 ∷ viewOf (run worked (Call.keep 20 5 ∷ Call.keep 60 0 ∷ [])) 61 ∷ viewOf kept20 61 ∷ [])
     ≡ seen (Area 0) 2 Earlier 0 (take 16 table60) ∷ seen (Area 1) 2 Earlier 0 (take 16 table60) ∷ seen Current 2 Later 0 (take 16 table60) ∷ []
 unfolding computing
 views-kept = refl
 
-table-kept : tableOf (run worked (Call.keep 60 ∷ [])) 61 (replicate 33 77) ≡ told 2 Earlier 0 table60
+table-kept : tableOf (run worked (Call.keep 60 7 ∷ [])) 61 (replicate 33 77) ≡ told 2 Earlier 0 table60
 unfolding computing
 table-kept = refl
 
@@ -164,14 +164,15 @@ short-net : (netOf worked 61 20 (replicate 95 3) (replicate 64 4) ∷ netOf work
 unfolding computing
 short-net = refl
 
-keeps : map (keepOf worked) late ≡ replicate 3 (after (refuses 12) worked)
+keeps : map (λ (t : ℕ). keepOf worked t 5) late ≡ replicate 3 (after (refuses 12) worked)
 unfolding computing
 keeps = refl
 
 -- which calls for time 61 are refused by 12
 met : map (λ (c : Call). saidRefusedBy 12 (answerOf roomy c)) (Call.position 61 ∷ Call.table 61 (replicate 32 3) ∷ Call.table 61 [] ∷ Call.view 61
-    ∷ Call.netChange 61 61 [] [] ∷ Call.units 61 ∷ Call.difference 61 61 ∷ Call.insert 61 3 5 ∷ Call.delete 61 7 ∷ Call.update 61 9 8 ∷ Call.drop 61 ∷ Call.keep 60 ∷ Call.keep 61 ∷ Call.audit ∷ [])
-    ≡ replicate 12 false ++ (true ∷ false ∷ [])
+    ∷ Call.netChange 61 61 [] [] ∷ Call.units 61 ∷ Call.difference 61 61 ∷ Call.insert 61 3 5 ∷ Call.delete 61 7 ∷ Call.update 61 9 8 ∷ Call.drop 61
+    ∷ Call.dropMarked 5 ∷ Call.dropMarked 12 ∷ Call.keep 60 7 ∷ Call.keep 61 7 ∷ Call.audit ∷ [])
+    ≡ replicate 14 false ++ (true ∷ false ∷ [])
 unfolding computing
 met = refl
 
@@ -184,6 +185,6 @@ anew : (tableOf after61 61 (replicate 33 77) ∷ tableOf after61 60 (replicate 3
 unfolding computing
 anew = refl
 
-kept-then : (keepOf after61 61 .outcome ∷ keepOf after61 62 .outcome ∷ []) ≡ answers tt ∷ refuses 12 ∷ []
+kept-then : (keepOf after61 61 7 .outcome ∷ keepOf after61 62 7 .outcome ∷ []) ≡ answers tt ∷ refuses 12 ∷ []
 unfolding computing
 kept-then = refl

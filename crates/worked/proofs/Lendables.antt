@@ -29,6 +29,7 @@ pub record Fitting (m : Memory) : Type 0 where
   pub table : T (allBelow 256 (m .table))
   pub times : T (allBelow (2 ^ 64) (map (λ (e : Entry). e .time) (m .catalogue)))
   pub rows : T (allBelow (2 ^ 32) (map (λ (e : Entry). e .rows) (m .catalogue)))
+  pub marks : T (allBelow (2 ^ 32) (map (λ (e : Entry). e .mark) (m .catalogue)))
   pub areas : T (allBelow 256 (m .areas))
 
 pub lendable : (m : Memory) → Fitting m → Lendable m
@@ -40,5 +41,6 @@ lendable m f =
       table-bytes = all-below 256 (lit< tt) (m .table) (f .table);
       entry-times = λ i. subst (λ (x : ℕ). x < 2 ^ 64) (List·getD-map (λ (e : Entry). e .time) (m .catalogue) i noEntry) (all-below (2 ^ 64) (lit< tt) _ (f .times) i);
       entry-rows = λ i. subst (λ (x : ℕ). x < 2 ^ 32) (List·getD-map (λ (e : Entry). e .rows) (m .catalogue) i noEntry) (all-below (2 ^ 32) (lit< tt) _ (f .rows) i);
+      entry-marks = λ i. subst (λ (x : ℕ). x < 2 ^ 32) (List·getD-map (λ (e : Entry). e .mark) (m .catalogue) i noEntry) (all-below (2 ^ 32) (lit< tt) _ (f .marks) i);
       area-bytes = all-below 256 (lit< tt) (m .areas) (f .areas);
     }

@@ -16,3 +16,4 @@ pub mod OutsetCases
 pub mod AuditCases
 pub mod CallCases
 pub mod LateCases
+pub mod MarkCases

@@ -18,7 +18,7 @@ use Rattle.model.specs.Queries.{positionOf, tableOf, viewOf, netOf}
 use Rattle.model.specs.Files.{keepOf}
 use Rattle.model.specs.Calls.{keep, drop, run}
 use Rattle.worked.proofs.Computing.{computing}
-use Rattle.worked.proofs.WorkedLog.{workedNumbers, worked, entry, located, table20, seen}
+use Rattle.worked.proofs.WorkedLog.{worked, entry, located, table20, seen}
 use Rattle.worked.proofs.QuestionOne.{numbersOf, pair}
 
 -- ---- 17 and fresh store
@@ -34,7 +34,7 @@ lent log =
       log = log;
       index = replicate 8 555;
       table = replicate 10 5;
-      catalogue = entry 1 2 ∷ entry 3 4 ∷ entry 5 6 ∷ [];
+      catalogue = entry 1 2 9 ∷ entry 3 4 8 ∷ entry 5 6 9 ∷ [];
       areas = replicate 17 9;
     }
 
@@ -45,7 +45,7 @@ at-17 : openOf (lent wrongLog)
       log = wrongLog;
       index = zeros 6 ++ (555 ∷ 555 ∷ []);
       table = zeros 8 ++ (5 ∷ 5 ∷ []);
-      catalogue = entry 0 0 ∷ entry 0 0 ∷ entry 5 6 ∷ [];
+      catalogue = entry 0 0 0 ∷ entry 0 0 0 ∷ entry 5 6 9 ∷ [];
       areas = replicate 17 9;
     }))
 unfolding computing
@@ -58,7 +58,7 @@ fresh-leaves : freshOf 3 2 1 (lent (replicate 30 7))
       log = 24 ∷ 0 ∷ 1 ∷ 0 ∷ 3 ∷ 0 ∷ 2 ∷ 0 ∷ 1 ∷ 0 ∷ 0 ∷ 0 ∷ (zeros 12 ++ replicate 6 7);
       index = replicate 8 555;
       table = zeros 8 ++ (5 ∷ 5 ∷ []);
-      catalogue = entry 0 0 ∷ entry 0 0 ∷ entry 5 6 ∷ [];
+      catalogue = entry 0 0 0 ∷ entry 0 0 0 ∷ entry 5 6 9 ∷ [];
       areas = replicate 17 9;
     }))
 unfolding computing
@@ -72,42 +72,48 @@ capacities : (capacity 4 9 100 ∷ capacity 12 9 100 ∷ capacity 13 9 100 ∷ c
 unfolding computing
 capacities = refl
 
--- ---- keep and drop, on 01's log with three areas
+-- ---- keep and drop, on 01's log with three areas and a fourth entry, past the capacity
 
-abbrev wide : State
-wide =
-    let m = worked .memory in
-    state workedNumbers (record { log = m .log; index = m .index; table = m .table; catalogue = replicate 4 (entry 0 0); areas = replicate 100 9 })
-
-abbrev table40 : List ℕ
-table40 = 7 ∷ 0 ∷ 0 ∷ 0 ∷ 44 ∷ 0 ∷ 0 ∷ 0 ∷ zeros 24
-
--- what `wide` is with so many files, this catalogue and these areas
-abbrev wideWith : ℕ → List Entry → List ℕ → State
+-- so many files, this catalogue and these areas
+abbrev pub wideWith : ℕ → List Entry → List ℕ → State
 wideWith files catalogue areas =
     let m = worked .memory in
     state (numbersOf 3 2 4 8 60 2 files) (record { log = m .log; index = m .index; table = m .table; catalogue = catalogue; areas = areas })
 
--- "Keeping shifts the later files up", whatever was kept first; time 5 has no row, and its area no stale byte
-keeps-shift : run wide (keep 40 ∷ keep 20 ∷ keep 5 ∷ [])
-    ≡ wideWith 3 (entry 5 0 ∷ entry 20 2 ∷ entry 40 1 ∷ entry 0 0 ∷ []) (zeros 32 ++ (table20 ++ (table40 ++ replicate 4 9)))
+abbrev wide : State
+wide = wideWith 0 (entry 0 0 0 ∷ entry 0 0 0 ∷ entry 0 0 0 ∷ entry 99 98 9 ∷ []) (replicate 100 9)
+
+abbrev table40 : List ℕ
+table40 = 7 ∷ 0 ∷ 0 ∷ 0 ∷ 44 ∷ 0 ∷ 0 ∷ 0 ∷ zeros 24
+
+-- "Keeping shifts the later files up", each with its mark, whatever was kept first; time 5 has no row, and its area no stale byte
+keeps-shift : run wide (keep 40 5 ∷ keep 20 7 ∷ keep 5 0 ∷ [])
+    ≡ wideWith 3 (entry 5 0 0 ∷ entry 20 2 7 ∷ entry 40 1 5 ∷ entry 99 98 9 ∷ []) (zeros 32 ++ (table20 ++ (table40 ++ replicate 4 9)))
 unfolding computing
 keeps-shift = refl
 
 abbrev three : State
-three = run wide (keep 5 ∷ keep 20 ∷ keep 40 ∷ [])
+three = run wide (keep 5 0 ∷ keep 20 7 ∷ keep 40 5 ∷ [])
 
 -- "dropping shifts them down and zeroes the last used entry and area"
-drop-first : run three (drop 5 ∷ []) ≡ wideWith 2 (entry 20 2 ∷ entry 40 1 ∷ entry 0 0 ∷ entry 0 0 ∷ []) (table20 ++ (table40 ++ (zeros 32 ++ replicate 4 9)))
+drop-first : run three (drop 5 ∷ [])
+    ≡ wideWith 2 (entry 20 2 7 ∷ entry 40 1 5 ∷ entry 0 0 0 ∷ entry 99 98 9 ∷ []) (table20 ++ (table40 ++ (zeros 32 ++ replicate 4 9)))
 unfolding computing
 drop-first = refl
 
-drop-last : run three (drop 40 ∷ []) ≡ wideWith 2 (entry 5 0 ∷ entry 20 2 ∷ entry 0 0 ∷ entry 0 0 ∷ []) (zeros 32 ++ (table20 ++ (zeros 32 ++ replicate 4 9)))
+drop-middle : run three (drop 20 ∷ [])
+    ≡ wideWith 2 (entry 5 0 0 ∷ entry 40 1 5 ∷ entry 0 0 0 ∷ entry 99 98 9 ∷ []) (zeros 32 ++ (table40 ++ (zeros 32 ++ replicate 4 9)))
+unfolding computing
+drop-middle = refl
+
+drop-last : run three (drop 40 ∷ [])
+    ≡ wideWith 2 (entry 5 0 0 ∷ entry 20 2 7 ∷ entry 0 0 0 ∷ entry 99 98 9 ∷ []) (zeros 32 ++ (table20 ++ (zeros 32 ++ replicate 4 9)))
 unfolding computing
 drop-last = refl
 
 -- the area behind the used ones is not touched
-drop-only : run wide (keep 20 ∷ drop 20 ∷ []) ≡ wideWith 0 (replicate 4 (entry 0 0)) (zeros 32 ++ replicate 68 9)
+drop-only : run wide (keep 20 7 ∷ drop 20 ∷ [])
+    ≡ wideWith 0 (entry 0 0 0 ∷ entry 0 0 0 ∷ entry 0 0 0 ∷ entry 99 98 9 ∷ []) (zeros 32 ++ replicate 68 9)
 unfolding computing
 drop-only = refl
 
@@ -145,7 +151,7 @@ unfolding computing
 not-by-time = refl
 
 -- "A count file at the last time goes before the current table"; without it the current table is used
-file-at-last : (viewOf (keepOf wide 60 .state) 50 ∷ viewOf wide 50 ∷ []) ≡ seen (Area 0) 2 Later 2 rows60 ∷ seen Current 2 Later 2 rows60 ∷ []
+file-at-last : (viewOf (keepOf wide 60 7 .state) 50 ∷ viewOf wide 50 ∷ []) ≡ seen (Area 0) 2 Later 2 rows60 ∷ seen Current 2 Later 2 rows60 ∷ []
 unfolding computing
 file-at-last = refl
 

@@ -31,7 +31,7 @@ opened s rs =
       log = headerBytes s ++ recordsBytes rs;
       index = replicate 8 0;
       table = zeros 32;
-      catalogue = replicate 2 (entry 0 0);
+      catalogue = replicate 2 (entry 0 0 0);
       areas = zeros 64;
     })
     .state
@@ -87,7 +87,7 @@ seenAt st t =
     }
 
 abbrev seen : Case → Seen
-seen c = seenAt (run (c .log) (map keep (c .kept))) (c .time)
+seen c = seenAt (run (c .log) (map (λ (u : ℕ). keep u 7) (c .kept))) (c .time)
 
 abbrev starts : Place → ℕ → Side → ℕ → (requests pages : Both) → Seen
 starts place k side n requests pages =

@@ -22,7 +22,7 @@ abbrev pub numbersOf : (d N R n last live files : ℕ) → Numbers
 numbersOf d N R n last live files =
     record { order = d; page = N; limit = R; records = n; last = last; live = live; files = files }
 
--- d = 2, N = 2, R = 1: time 10 insert 5 with 8. The table is full, and so is a catalogue of one file, that of time 10
+-- d = 2, N = 2, R = 1: time 10 insert 5 with 8. The table is full, and so is a catalogue of one file, that of time 10, marked 5
 abbrev fullNumbers : Numbers
 fullNumbers = numbersOf 2 2 1 1 10 1 1
 
@@ -36,7 +36,7 @@ fullBut s room spare =
       log = headerBytes fullNumbers ++ (recordsBytes fullRecords ++ replicate room 7);
       index = 10 ∷ replicate spare 7;
       table = 5 ∷ 0 ∷ 0 ∷ 0 ∷ 8 ∷ 0 ∷ 0 ∷ 0 ∷ [];
-      catalogue = entry 10 1 ∷ [];
+      catalogue = entry 10 1 5 ∷ [];
       areas = 5 ∷ 0 ∷ 0 ∷ 0 ∷ 8 ∷ 0 ∷ 0 ∷ 0 ∷ [];
     })
 

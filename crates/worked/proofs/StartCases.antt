@@ -19,7 +19,7 @@ use Rattle.worked.proofs.QuestionCases.{noes}
 -- memory of these lengths, each value foreign, and one entry with an area of 8 bytes
 abbrev lent : List ℕ → (index table : ℕ) → Memory
 lent log index table =
-    record { log = log; index = replicate index 555; table = replicate table 5; catalogue = entry 1 2 ∷ []; areas = replicate 8 9 }
+    record { log = log; index = replicate index 555; table = replicate table 5; catalogue = entry 1 2 9 ∷ []; areas = replicate 8 9 }
 
 -- a start that was refused by question k alone: no number, and the memory as it was
 abbrev notBegun : Memory → ℕ → After
@@ -125,7 +125,7 @@ open-enough : openOf (lent (logWith 2 2 1 1 10 good) 1 8)
       outcome = answers tt;
       state =
           state (numbersOf 2 2 1 1 10 1 0)
-          (record { log = logWith 2 2 1 1 10 good; index = 10 ∷ []; table = 5 ∷ 0 ∷ 0 ∷ 0 ∷ 8 ∷ 0 ∷ 0 ∷ 0 ∷ []; catalogue = entry 0 0 ∷ []; areas = replicate 8 9 });
+          (record { log = logWith 2 2 1 1 10 good; index = 10 ∷ []; table = 5 ∷ 0 ∷ 0 ∷ 0 ∷ 8 ∷ 0 ∷ 0 ∷ 0 ∷ []; catalogue = entry 0 0 0 ∷ []; areas = replicate 8 9 });
     }
 unfolding computing
 open-enough = refl

@@ -33,8 +33,8 @@ workedRecords =
 abbrev pub workedNumbers : Numbers
 workedNumbers = record { order = 3; page = 2; limit = 4; records = 8; last = 60; live = 2; files = 0 }
 
-abbrev pub entry : ℕ → ℕ → Entry
-entry t k = record { time = t; rows = k }
+abbrev pub entry : (t rows mark : ℕ) → Entry
+entry t rows mark = record { time = t; rows = rows; mark = mark }
 
 -- behind log, index, table and catalogue lie three foreign bytes, two words, two bytes and an entry; the areas, of two
 -- tables and five bytes, are foreign
@@ -44,7 +44,7 @@ workedMemory =
       log = headerBytes workedNumbers ++ (recordsBytes workedRecords ++ (201 ∷ 202 ∷ 203 ∷ []));
       index = 10 ∷ 30 ∷ 30 ∷ 0 ∷ 40 ∷ 60 ∷ 777 ∷ 888 ∷ [];
       table = 7 ∷ 0 ∷ 0 ∷ 0 ∷ 44 ∷ 0 ∷ 0 ∷ 0 ∷ 9 ∷ 0 ∷ 0 ∷ 0 ∷ 6 ∷ 0 ∷ 0 ∷ 0 ∷ (zeros 16 ++ (211 ∷ 212 ∷ []));
-      catalogue = entry 0 0 ∷ entry 0 0 ∷ entry 99 98 ∷ [];
+      catalogue = entry 0 0 0 ∷ entry 0 0 0 ∷ entry 99 98 9 ∷ [];
       areas = replicate 69 9;
     }
 
@@ -78,7 +78,7 @@ abbrev answer : Ask → Result
 answer (position t) = at (positionOf worked t)
 answer (tableFor t) = written (tableOf worked t (replicate 33 77))
 answer (net a b) = netted (netOf worked a b (replicate 97 77) (replicate 65 77))
-answer (outset kept t) = outsetIn (run worked (map keep kept)) t
+answer (outset kept t) = outsetIn (run worked (map (λ (u : ℕ). keep u 0) kept)) t
 
 abbrev case : Ask → Result → Case
 case a r = record { ask = a; expected = r }
@@ -89,7 +89,7 @@ case a r = record { ask = a; expected = r }
 abbrev pub table20 : List ℕ
 table20 = 3 ∷ 0 ∷ 0 ∷ 0 ∷ 12 ∷ 0 ∷ 0 ∷ 0 ∷ 7 ∷ 0 ∷ 0 ∷ 0 ∷ 50 ∷ 0 ∷ 0 ∷ 0 ∷ zeros 16
 
-abbrev table30 : List ℕ
+abbrev pub table30 : List ℕ
 table30 = 3 ∷ 0 ∷ 0 ∷ 0 ∷ 12 ∷ 0 ∷ 0 ∷ 0 ∷ 7 ∷ 0 ∷ 0 ∷ 0 ∷ 44 ∷ 0 ∷ 0 ∷ 0 ∷ zeros 16
 
 abbrev pub table45 : List ℕ

@@ -1,6 +1,7 @@
 -- 01's log by hand, reached three ways: its bytes are those of "Log bytes", the audit passes it, an opening and six
--- requests over foreign memory leave it whole, and with 20 kept accepted calls leave it ("It says yes exactly for
--- numbers and memory that some accepted calls from a fresh or opened store leave"). Assumes nothing.
+-- requests over foreign memory leave it whole, and with 20 kept, and with that file gone by its mark, accepted calls leave
+-- it ("It says yes exactly for numbers and memory that some accepted calls from a fresh or opened store leave").
+-- Assumes nothing.
 use Prim.Native.Nat.{ℕ, _+_, _-_, _*_, _^_}
 use mathlib.Core.Path.{_≡_, refl}
 use mathlib.Core.List.{List, [], _∷_, _++_}
@@ -12,9 +13,9 @@ use Rattle.model.specs.Answers.{answers}
 use Rattle.model.specs.Records.{insertion, recordBytes, recordsBytes, records, headerBytes}
 use Rattle.model.specs.Memory.{Memory, State, state}
 use Rattle.model.specs.Starts.{after, openOf}
-use Rattle.model.specs.Files.{keepOf}
+use Rattle.model.specs.Files.{keepOf, dropMarkedOf}
 use Rattle.model.specs.Audit.{Audited}
-use Rattle.model.specs.Calls.{fresh, opening, Call, begun, insert, delete, update, run, Reachable, started, inserted, deleted, updated, kept}
+use Rattle.model.specs.Calls.{fresh, opening, Call, begun, insert, delete, update, run, Reachable, started, inserted, deleted, updated, kept, markedDropped}
 use Rattle.worked.proofs.Lendables.{allBelow, lendable}
 use Rattle.worked.proofs.WorkedLog.{workedRecords, workedNumbers, workedMemory, worked, entry}
 
@@ -52,7 +53,7 @@ foreign log =
       log = log;
       index = replicate 6 555 ++ (777 ∷ 888 ∷ []);
       table = replicate 32 5 ++ (211 ∷ 212 ∷ []);
-      catalogue = entry 1 2 ∷ entry 3 4 ∷ entry 99 98 ∷ [];
+      catalogue = entry 1 2 9 ∷ entry 3 4 8 ∷ entry 99 98 9 ∷ [];
       areas = replicate 69 9;
     }
 
@@ -76,7 +77,7 @@ built-is = refl
 worked-reachable : Reachable worked
 unfolding computing allBelow
 worked-reachable =
-    let lent = lendable blank (record { log = tt; index = tt; table = tt; times = tt; rows = tt; areas = tt }) in
+    let lent = lendable blank (record { log = tt; index = tt; table = tt; times = tt; rows = tt; marks = tt; areas = tt }) in
     let r0 = started (fresh 3 2 4 blank) (lit< tt, (lit< tt, (lit< tt, lent))) refl in
     let r1 = inserted 10 7 50 r0 (lit< tt, (lit< tt, lit< tt)) refl in
     let r2 = inserted 20 3 12 r1 (lit< tt, (lit< tt, lit< tt)) refl in
@@ -85,7 +86,7 @@ worked-reachable =
     let r5 = inserted 50 9 5 r4 (lit< tt, (lit< tt, lit< tt)) refl in
     updated 60 9 6 r5 (lit< tt, (lit< tt, lit< tt)) refl
 
--- ---- with 20 kept
+-- ---- with 20 kept, marked 5
 
 -- entry 0 and area 0 hold the table of 20, entry 1 is zero, and the rest is as it was
 abbrev pub kept20 : State
@@ -95,25 +96,49 @@ kept20 =
       log = workedMemory .log;
       index = workedMemory .index;
       table = workedMemory .table;
-      catalogue = entry 20 2 ∷ entry 0 0 ∷ entry 99 98 ∷ [];
+      catalogue = entry 20 2 5 ∷ entry 0 0 0 ∷ entry 99 98 9 ∷ [];
       areas = 3 ∷ 0 ∷ 0 ∷ 0 ∷ 12 ∷ 0 ∷ 0 ∷ 0 ∷ 7 ∷ 0 ∷ 0 ∷ 0 ∷ 50 ∷ 0 ∷ 0 ∷ 0 ∷ (zeros 16 ++ replicate 37 9);
     })
 
-kept-is : keepOf worked 20 ≡ after (answers tt) kept20
+kept-is : keepOf worked 20 5 ≡ after (answers tt) kept20
 unfolding computing
 kept-is = refl
 
 kept-reachable : Reachable kept20
 unfolding computing
-kept-reachable = kept 20 worked-reachable (lit< tt) refl
+kept-reachable = kept 20 5 worked-reachable (lit< tt, lit< tt) refl
 
 kept-audited : Audited kept20
 unfolding computing
 kept-audited = refl
 
--- the same state reached by an opening, with foreign areas
+-- gone on Friday: entry 0 and area 0 are zero
+abbrev gone20 : State
+gone20 =
+    state workedNumbers
+    (record {
+      log = workedMemory .log;
+      index = workedMemory .index;
+      table = workedMemory .table;
+      catalogue = workedMemory .catalogue;
+      areas = zeros 32 ++ replicate 37 9;
+    })
+
+gone-is : dropMarkedOf kept20 5 ≡ after (answers 1) gone20
+unfolding computing
+gone-is = refl
+
+gone-reachable : Reachable gone20
+unfolding computing
+gone-reachable = markedDropped 5 1 kept-reachable (lit< tt) refl
+
+gone-audited : Audited gone20
+unfolding computing
+gone-audited = refl
+
+-- the state with no file reached by an opening, with foreign areas
 opened-reachable : Reachable worked
 unfolding computing allBelow
 opened-reachable =
     let m = foreign (workedMemory .log) in
-    started (opening m) (lendable m (record { log = tt; index = tt; table = tt; times = tt; rows = tt; areas = tt })) refl
+    started (opening m) (lendable m (record { log = tt; index = tt; table = tt; times = tt; rows = tt; marks = tt; areas = tt })) refl

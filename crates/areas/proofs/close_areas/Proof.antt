@@ -7,19 +7,20 @@ use native.Mathlib.Nat.{mul-le-mul-right}
 use lib.ListN.{length}
 use borrow.Author.Needs.{needs}
 use Rattle.codec.proofs.PartLaws.{put-zeros}
-use Rattle.model.specs.Files.{filesIn, areasBytes, staying, notOf}
+use Rattle.model.specs.Files.{filesIn, areasBytes, staying}
+use Rattle.catalogue.specs.Entries.{staysWhen}
 use Rattle.catalogue.proofs.Sixteen.{sixteen}
 use Rattle.areas.proofs.Closing.{leftOf, closedTo, left-few, count-turn, area-turn, areas-closed}
 use Rattle.areas.proofs.close_areas.Statement.{statement}
 use Rattle.areas.proofs.close_areas.Tie as tie
 
 abbrev Inv-loop : tie.InvT-loop
-Inv-loop areas₀ limit c files t size i₀ j₀ areas i j =
+Inv-loop areas₀ limit c files going size i₀ j₀ areas i j =
     ((i ≤ files) × (j ≤ i))
-    × ((j ≡ length (leftOf (notOf t) limit (c .entries) areas₀ i)) × ((length areas ≡ length areas₀) × (areas ≡ closedTo (notOf t) limit (c .entries) areas₀ i)))
+    × ((j ≡ length (leftOf (staysWhen going) limit (c .entries) areas₀ i)) × ((length areas ≡ length areas₀) × (areas ≡ closedTo (staysWhen going) limit (c .entries) areas₀ i)))
 
 abbrev μ-loop : tie.MeasureT-loop
-μ-loop areas₀ limit c files t size i₀ j₀ areas i j = files - i
+μ-loop areas₀ limit c files going size i₀ j₀ areas i j = files - i
 
 mul-size : tie.Need-mul-size Inv-loop μ-loop
 mul-size c = omega arith
@@ -52,7 +53,7 @@ loop-again c =
     let start = e .before .before .before .before .before in
     let a = start .args in
     let es = a .c .entries in
-    let stays = notOf (a .t) in
+    let stays = staysWhen (a .going) in
     let long = sixteen (a .c) _ (start .good .1 .1 .0) in
     let more : (l .i + 1) * (8 * a .limit) ≤ a .files * (8 * a .limit) = mul-le-mul-right (8 * a .limit) (omega arith) in
     let count : joined .join-area .result ≡ length (leftOf stays (a .limit) es (a .areas .now) (l .i + 1)) =
@@ -101,7 +102,7 @@ returns c =
     let start = filled .before .before .before .before .before in
     let a = start .args in
     let es = a .c .entries in
-    let stays = notOf (a .t) in
+    let stays = staysWhen (a .going) in
     let size = 8 * a .limit in
     let long = sixteen (a .c) _ (start .good .1 .1 .0) in
     let low : l .j * size ≤ a .files * size = mul-le-mul-right size (omega arith) in

@@ -3,18 +3,17 @@
 use Prim.Native.Nat.{_+_, _-_, _≤_}
 use mathlib.Core.Path.{_≡_, refl, ap, _∙_}
 use native.Mathlib.Omega.{arith}
-use Rattle.model.specs.Files.{notOf}
-use Rattle.catalogue.specs.Entries.{entriesStaying, withEntries}
+use Rattle.catalogue.specs.Entries.{staysWhen, entriesStaying, withEntries}
 use Rattle.catalogue.proofs.Sixteen.{sixteen}
 use Rattle.catalogue.proofs.EntryTurns.{leftAfter, left-few, left-turn, closed-is}
 use Rattle.catalogue.proofs.closed_up.Statement.{statement}
 use Rattle.catalogue.proofs.closed_up.Tie as tie
 
 abbrev Inv-loop : tie.InvT-loop
-Inv-loop c files t left₀ i₀ left i = (i ≤ files) × ((left .files ≤ i) × (left ≡ leftAfter (notOf t) c i))
+Inv-loop c files going left₀ i₀ left i = (i ≤ files) × ((left .files ≤ i) × (left ≡ leftAfter (staysWhen going) c i))
 
 abbrev μ-loop : tie.MeasureT-loop
-μ-loop c files t left₀ i₀ left i = files - i
+μ-loop c files going left₀ i₀ left i = files - i
 
 loop-holds : tie.Need-loop-holds Inv-loop μ-loop
 unfolding entriesStaying
@@ -39,9 +38,9 @@ loop-again c =
     let a = start .args in
     let es = a .c .entries in
     let long = sixteen (a .c) _ (start .good .0) in
-    let is : c .join .result ≡ leftAfter (notOf (a .t)) (a .c) (l .i + 1) =
-    rw (c .join .ensures, c .before .entry-of .ensures, l .inv .1 .1) (left-turn (notOf (a .t)) (a .c) (l .i) (omega arith)) in
-    (omega arith, (rw is (left-few (notOf (a .t)) es (l .i + 1) (omega arith)), is))
+    let is : c .join .result ≡ leftAfter (staysWhen (a .going)) (a .c) (l .i + 1) =
+    rw (c .join .ensures, c .before .entry-of .ensures, l .inv .1 .1) (left-turn (staysWhen (a .going)) (a .c) (l .i) (omega arith)) in
+    (omega arith, (rw is (left-few (staysWhen (a .going)) es (l .i + 1) (omega arith)), is))
 
 emptied-requires : tie.Need-emptied-requires Inv-loop μ-loop
 emptied-requires c κs = (omega arith, omega arith)
@@ -54,8 +53,8 @@ returns c =
     let es = a .c .entries in
     let long = sixteen (a .c) _ (start .good .0) in
     let e : l .i ≡ a .files = omega arith in
-    let is : l .left ≡ leftAfter (notOf (a .t)) (a .c) (a .files) = l .inv .1 .1 ∙ ap (leftAfter (notOf (a .t)) (a .c)) e in
-    (rw (c .emptied .ensures, is) (ap (withEntries (a .c)) (closed-is (notOf (a .t)) es (a .files) (omega arith))), (rw is, omega arith))
+    let is : l .left ≡ leftAfter (staysWhen (a .going)) (a .c) (a .files) = l .inv .1 .1 ∙ ap (leftAfter (staysWhen (a .going)) (a .c)) e in
+    (rw (c .emptied .ensures, is) (ap (withEntries (a .c)) (closed-is (staysWhen (a .going)) es (a .files) (omega arith))), (rw is, omega arith))
 
 pub closed-up-spec : {M : Type 1} → statement M
 closed-up-spec =

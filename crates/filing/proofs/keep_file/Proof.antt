@@ -63,7 +63,10 @@ put-area-requires c κs =
     }
 
 inserted-requires : tie.Need-inserted-requires
-inserted-requires c κs = search needs
+inserted-requires c κs =
+    let place = c .before .before .before .before .before .before in
+    let start = place .before .before .before .before .before .before .before .before .before .before .before in
+    (place .place .ensures .1, start .pre .1 .0)
 
 same-length : tie.Need-same-length
 same-length c = search needs
@@ -80,7 +83,7 @@ returns c catalogue same few =
     let long : length ys ≡ size = worked .work-out .kept .1 .1 .1 .1 .1 .1 .1 .0 ∙ simp (length-take, length-drop) (omega arith) in
     let areas-are : put .put-area .last .0 ≡ areaPut (a .s .limit) (a .s .files) (place .place .result) ys (a .areas .now) =
     put .put-area .ensures ∙ ap (λ (xs : List ℕ). areaPut (a .s .limit) (a .s .files) (place .place .result) xs (a .areas .now)) (take-at ys _ (size - 0) (long ∙ sym (sub-zero size))) in
-    keeping-of (a .s) (a .log .now) (a .index .now) (a .current .now) catalogue (a .areas .now) (a .c) same (a .t) (worked .work-out .result) (place .place .result)
+    keeping-of (a .s) (a .log .now) (a .index .now) (a .current .now) catalogue (a .areas .now) (a .c) same (a .t) (a .mark) (worked .work-out .result) (place .place .result)
     (start .pre .1 .0) few (start .pre .1 .1) long (worked .work-out .ensures .1) (place .place .ensures .0) (c .inserted .ensures) areas-are
 
 pub keep-file-spec : {M : Type 1} → statement M

@@ -12,9 +12,11 @@ use Rattle.appending.proofs.update.Reads as update-reads
 use Rattle.auditing.proofs.audit.Reads as audit-reads
 use Rattle.comparing.proofs.net_change.Reads as net-change-reads
 use Rattle.filing.proofs.drop.Reads as drop-reads
+use Rattle.filing.proofs.drop_marked.Reads as drop-marked-reads
 use Rattle.filing.proofs.keep.Reads as keep-reads
 use Rattle.store.proofs.answered.Reads as answered-reads
 use Rattle.store.proofs.appended.Reads as appended-reads
+use Rattle.store.proofs.cleared.Reads as cleared-reads
 use Rattle.store.proofs.filed.Reads as filed-reads
 use Rattle.tables.proofs.position.Reads as position-reads
 use Rattle.tables.proofs.table.Reads as table-reads
@@ -120,6 +122,15 @@ drop-requires c κs = search needs
 
 filed-requires-2 : tie.Need-filed-requires-2
 filed-requires-2 c κs = search needs
+
+enum-known-call-12 : tie.Need-enum-known-call-12
+enum-known-call-12 c = search needs
+
+drop-marked-requires : tie.Need-drop-marked-requires
+drop-marked-requires c κs = search needs
+
+cleared-requires : tie.Need-cleared-requires
+cleared-requires c κs = search needs
 
 enum-told : tie.Need-enum-told
 enum-told c = search needs
@@ -356,7 +367,7 @@ returns-10 c catalogue e =
     let q = c .before .before .before in
     let g = c .before .before .before .before .before .before .before .before .before .call10 .given .1 in
     record {
-      carried = rw (g, c .filed .ensures) (Carried.keep _ (q .keep .ensures catalogue e));
+      carried = rw (g, c .filed .ensures) (Carried.keep _ _ (q .keep .ensures catalogue e));
       outputs = rw g (refl, refl);
     }
 
@@ -397,6 +408,28 @@ same-length-47 c = search needs
 returns-12 : tie.Need-returns-12
 unfolding callOf saidOf OutputsKept
 returns-12 c catalogue e =
+    let q = c .before .before .before in
+    let g = c .before .before .before .before .before .before .before .before .before .call12 .given .1 in
+    record {
+      carried = rw (g, c .cleared .ensures) (Carried.dropMarked _ (q .drop-marked .ensures catalogue e));
+      outputs = rw g (refl, refl);
+    }
+
+same-length-48 : tie.Need-same-length-48
+same-length-48 c = search needs
+
+same-length-49 : tie.Need-same-length-49
+same-length-49 c = search needs
+
+same-length-50 : tie.Need-same-length-50
+same-length-50 c = search needs
+
+same-length-51 : tie.Need-same-length-51
+same-length-51 c = search needs
+
+returns-13 : tie.Need-returns-13
+unfolding callOf saidOf OutputsKept
+returns-13 c catalogue e =
     let q = c .before in
     let a = c .before .before .before .before .before .before .before .before .before .before .before .before .before .before .args in
     let g = c .before .before .before .before .before .before .enum-told .given .1 in
@@ -442,6 +475,9 @@ make-spec =
     enum-known-call-11
     drop-requires
     filed-requires-2
+    enum-known-call-12
+    drop-marked-requires
+    cleared-requires
     enum-told
     audit-requires
     answered-requires-7
@@ -503,4 +539,9 @@ make-spec =
     same-length-45
     same-length-46
     same-length-47
-    returns-12)
+    returns-12
+    same-length-48
+    same-length-49
+    same-length-50
+    same-length-51
+    returns-13)
