@@ -4,14 +4,17 @@
 mod almost;
 mod damage;
 mod late;
+mod marks;
 mod next;
 mod start;
 
 pub use damage::damage;
 pub use late::Late;
+pub use marks::Marks;
 pub use next::call;
 pub use start::{last_records, start};
 
+use crate::mark::MARKS;
 use crate::random::Random;
 
 /// One call with its arguments.
@@ -33,8 +36,11 @@ pub enum Call {
     Units(u64),
     /// both times
     UnitsBetween(u64, u64),
-    Keep(u64),
+    /// time, mark
+    Keep(u64, u32),
     Drop(u64),
+    /// mark
+    DropMarked(u32),
     Audit,
     /// no call of the store: a stranger writes in its memory or numbers, or lends another length of it; the
     /// seed says where and what
@@ -55,8 +61,9 @@ impl Call {
             Call::NetChange(..) => "net change",
             Call::Units(_) => "units",
             Call::UnitsBetween(..) => "units between",
-            Call::Keep(_) => "keep",
+            Call::Keep(..) => "keep",
             Call::Drop(_) => "drop",
+            Call::DropMarked(_) => "marked deletion",
             Call::Audit => "audit",
             Call::Damage(_) => "damage",
         }
@@ -71,8 +78,9 @@ impl Call {
             Call::Delete(..) | Call::Update(..) => &[1, 6, 8, 10, 11],
             Call::Position(_) | Call::View(_) | Call::Units(_) | Call::UnitsBetween(..) => &[1],
             Call::Table(..) | Call::NetChange(..) => &[1, 13],
-            Call::Keep(_) => &[1, 12, 14, 15],
+            Call::Keep(..) => &[1, 12, 18, 14, 15],
             Call::Drop(_) => &[1, 16],
+            Call::DropMarked(_) => &[1, 18],
             Call::Audit | Call::Damage(_) => &[],
         }
     }
@@ -87,10 +95,12 @@ pub struct Plan {
     damage: u64,
     /// in a hundred calls, how many append
     appends: u64,
-    /// in a hundred others, how many keep or drop a count file
+    /// in a hundred others, how many keep or delete count files
     files: u64,
     /// in a hundred of those, how many keep one
     keeps: u64,
+    /// the marks of those kept; where they are few, neighbours go together
+    marks: &'static [u32],
     /// the most by which a time rises
     step: u64,
     pub calls: u64,
@@ -104,10 +114,28 @@ impl Plan {
             damage: random.pick(&[0, 0, 5, 20]),
             appends: random.pick(&[30, 50, 75]),
             files: random.pick(&[20, 40, 75]),
-            keeps: random.pick(&[60, 90, 98]),
+            keeps: random.pick(&[60, 85, 97, 100]),
+            marks: random.pick(&KEPT_MARKS),
             step: random.pick(&[1, 3, 1 << 40, 1 << 59]),
             calls: if random.percent(90) { random.from(1, 90) } else { random.from(90, 600) },
         }
+    }
+}
+
+/// The marks that a list keeps files with.
+const KEPT_MARKS: [&[u32]; 9] =
+    [&MARKS, &MARKS, &MARKS, &[0, 5, 5], &[7, 7, 0], &[5, 7], &[5, 7, 7], &[5], &[7]];
+
+/// Marks that are wrong everywhere: beside a right one, with a bit more than it, or it at another byte.
+const WRONG_MARKS: [u32; 15] =
+    [1, 2, 4, 6, 8, 9, 0x100, 0x105, 0x107, 0x10007, 5 << 8, 5 << 24, 7 << 24, 7 | 1 << 31, u32::MAX];
+
+/// A right mark or a wrong one.
+fn any_mark(random: &mut Random) -> u32 {
+    if random.percent(50) {
+        random.pick(&MARKS)
+    } else {
+        random.pick(&WRONG_MARKS)
     }
 }
 

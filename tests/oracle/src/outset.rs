@@ -2,12 +2,15 @@
 
 use crate::position::Position;
 
-/// One entry of the catalogue, laid out as C has it, so that a list of them can be lent to C.
+/// One entry of the catalogue, laid out as C has it, so that a list of them can be lent to C. The choice of an outset does
+/// not look at the mark.
 #[repr(C)]
 #[derive(Clone, Copy, Debug, Default, PartialEq, Eq)]
 pub struct Entry {
     pub time: u64,
     pub rows: u32,
+    /// what is to become of the file (02, wish 3)
+    pub mark: u32,
 }
 
 /// Where a held table is.

@@ -187,20 +187,20 @@ impl<'a> Store<'a> {
         answers::units_between(answer)
     }
 
-    pub fn keep(&mut self, t: u64) -> Result<(), Refusal> {
+    pub fn keep(&mut self, t: u64, mark: u32) -> Result<(), Refusal> {
         let Memory { log, index, table, entries, areas } = &mut self.memory;
         let answer = unsafe {
             c::yk_keep(
                 self.numbers,
                 log.as_ptr(), log.len(), index.as_ptr(), index.len(), table.as_ptr(), table.len(),
                 entries.as_mut_ptr(), entries.len(), areas.as_mut_ptr(), areas.len(),
-                t,
+                t, mark,
             )
         };
         self.take_up(answer)
     }
 
-    /// Drop a count file. (The name `drop` is the language's own.)
+    /// Drop a count file, whatever its mark. (The name `drop` is the language's own.)
     pub fn drop_file(&mut self, t: u64) -> Result<(), Refusal> {
         let Memory { log, index, table, entries, areas } = &mut self.memory;
         let answer = unsafe {
@@ -212,6 +212,21 @@ impl<'a> Store<'a> {
             )
         };
         self.take_up(answer)
+    }
+
+    /// Deletes every count file with this mark; how many went.
+    pub fn drop_marked(&mut self, mark: u32) -> Result<u32, Refusal> {
+        let Memory { log, index, table, entries, areas } = &mut self.memory;
+        let answer = unsafe {
+            c::yk_drop_marked(
+                self.numbers,
+                log.as_ptr(), log.len(), index.as_ptr(), index.len(), table.as_ptr(), table.len(),
+                entries.as_mut_ptr(), entries.len(), areas.as_mut_ptr(), areas.len(),
+                mark,
+            )
+        };
+        self.numbers = answer.numbers;
+        answers::drop_marked(answer)
     }
 
     pub fn audit(&self) -> bool {

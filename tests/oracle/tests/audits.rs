@@ -9,11 +9,11 @@ use oracle::log::log_length;
 use oracle::outset::Entry;
 use oracle::store::Store;
 
-/// 01's log with 20 and 45 kept.
+/// 01's log with 20 and 45 kept, the second until Sunday.
 fn with_files() -> Store {
     let mut store = by_hand();
-    store.keep(20).unwrap();
-    store.keep(45).unwrap();
+    store.keep(20, 0).unwrap();
+    store.keep(45, 7).unwrap();
     store
 }
 
@@ -40,7 +40,7 @@ fn anything_may_lie_past_the_ends() {
         |store| store.memory.log[log_length(8)..].fill(1),
         |store| store.memory.index[6..].fill(1),
         |store| store.memory.table[32..].fill(1),
-        |store| store.memory.catalogue[16..].fill(Entry { time: 1, rows: 1 }),
+        |store| store.memory.catalogue[16..].fill(Entry { time: 1, rows: 1, mark: 6 }),
         // areas not in use
         |store| store.memory.areas[64..].fill(1),
         |store| store.memory.areas[64..].fill(0),
@@ -54,7 +54,7 @@ fn anything_may_lie_past_the_ends() {
 
 #[test]
 fn no_for_what_calls_never_leave() {
-    let changes: [(&str, fn(&mut Store)); 18] = [
+    let changes: [(&str, fn(&mut Store)); 20] = [
         ("a record", |store| store.memory.log[log_length(8) - 1] ^= 1),
         ("an id", |store| store.memory.log[24 + 4] ^= 1),
         ("a key", |store| store.memory.index[0] = 9),
@@ -67,10 +67,14 @@ fn no_for_what_calls_never_leave() {
         ("one file fewer", |store| store.numbers.files = 1),
         ("one file more", |store| store.numbers.files = 3),
         ("an unused entry", |store| store.memory.catalogue[15].rows = 1),
+        ("a mark in an unused entry", |store| store.memory.catalogue[2].mark = 5),
+        ("a wrong mark", |store| store.memory.catalogue[1].mark = 6),
         ("a row count", |store| store.memory.catalogue[1].rows = 2),
         ("a file's row", |store| store.memory.areas[36] ^= 1),
         ("a byte after a file's rows", |store| store.memory.areas[63] = 1),
-        ("a file after the last time", |store| store.memory.catalogue[1] = Entry { time: 61, rows: 2 }),
+        ("a file after the last time", |store| {
+            store.memory.catalogue[1] = Entry { time: 61, rows: 2, mark: 7 }
+        }),
         ("the wrong order", |store| {
             store.memory.catalogue.swap(0, 1);
             let (first, second) = store.memory.areas.split_at_mut(32);
@@ -101,7 +105,7 @@ fn no_for_a_file_at_time_0() {
 #[test]
 fn no_for_a_file_after_the_last_time() {
     let mut store = by_hand();
-    store.keep(60).unwrap();
+    store.keep(60, 0).unwrap();
     store.memory.catalogue[0].time = 61;
     assert!(!store.audit());
 }
@@ -109,7 +113,7 @@ fn no_for_a_file_after_the_last_time() {
 #[test]
 fn no_file_without_a_request() {
     let mut store = fresh(3, 2, 4);
-    store.memory.catalogue[0] = Entry { time: 1, rows: 0 };
+    store.memory.catalogue[0] = Entry { time: 1, rows: 0, mark: 0 };
     store.memory.areas[..32].fill(0);
     store.numbers.files = 1;
     assert!(!store.audit());

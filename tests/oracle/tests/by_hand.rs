@@ -92,18 +92,18 @@ fn outsets() {
         (view.place, view.side, view.requests_between, view.rows, view.start, view.length)
     };
     // with 20 kept: 5 - 2 against 8 - 5, a tie of three
-    store.keep(20).unwrap();
+    store.keep(20, 0).unwrap();
     assert_eq!(outset(&store, 45), (Side::Earlier, 3));
     assert_eq!(view(&store, 45), (Place::File(0), Side::Earlier, 3, 2, 0, 16));
     assert_eq!(table(&store, 45).0, [(7, 44)]);
     store.drop_file(20).unwrap();
     // with only 40 kept: 4 - 0 against 5 - 4
-    store.keep(40).unwrap();
+    store.keep(40, 0).unwrap();
     assert_eq!(outset(&store, 30), (Side::Later, 1));
     assert_eq!(view(&store, 30), (Place::File(0), Side::Later, 1, 1, 0, 8));
     assert_eq!(table(&store, 30).0, [(3, 12), (7, 44)]);
     // with 10 and 40 kept: 4 - 1 against 5 - 4, and one page either way
-    store.keep(10).unwrap();
+    store.keep(10, 0).unwrap();
     assert_eq!(outset(&store, 30), (Side::Later, 1));
     assert_eq!(view(&store, 30), (Place::File(1), Side::Later, 1, 1, 32, 8));
     assert_eq!(table(&store, 30).0, [(3, 12), (7, 44)]);
@@ -131,7 +131,7 @@ fn node_numbers_at_order_3() {
 fn refusals() {
     let mut store = by_hand();
     // a query no longer (02, wish 2)
-    assert_eq!(refused(store.keep(61)), 12);
+    assert_eq!(refused(store.keep(61, 0)), 12);
     store.insert(61, 1, 1).unwrap();
     store.insert(62, 2, 1).unwrap();
     assert_eq!(refused(store.insert(63, 4, 1)), 9);

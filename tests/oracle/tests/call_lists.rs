@@ -34,7 +34,8 @@ fn call(random: &mut Random, store: &mut Store) -> Result<(), Refusal> {
     let short = random.percent(10) as usize;
     let mut output = vec![STRANGE; output_length(row_limit) - short];
     let mut workspace = vec![STRANGE; 2 * table_length(row_limit)];
-    match random.from(0, 13) {
+    let mark = random.pick(&[0, 5, 5, 7, 7, 6]);
+    match random.from(0, 14) {
         0..=2 => store.insert(if random.percent(95) { next } else { t }, article, count),
         3 => store.delete(next, article),
         4 => store.update(next, article, count),
@@ -42,13 +43,14 @@ fn call(random: &mut Random, store: &mut Store) -> Result<(), Refusal> {
         6 => store.table(t, &mut output).map(|_| ()),
         7 => store.view(t).map(|view| drop(store.view_bytes(&view).to_vec())),
         8 => store.net_change(t, other, &mut output, &mut workspace).map(|_| ()),
-        9 => store.keep(t),
+        9 => store.keep(t, mark),
         10 => {
             let kept = store.memory.catalogue.first().map_or(t, |entry| entry.time);
             store.drop_file(if random.percent(50) { kept } else { t })
         }
         11 => store.units(t).map(|_| ()),
         12 => store.units_between(t, other).map(|_| ()),
+        13 => store.drop_marked(mark).map(|_| ()),
         _ => {
             store.audit();
             Ok(())
@@ -142,7 +144,7 @@ fn lists_from_a_fresh_store() {
         }
     }
     // every question of these calls but 1 was answered no somewhere
-    for question in [6, 7, 8, 9, 10, 11, 12, 13, 14, 15, 16] {
+    for question in [6, 7, 8, 9, 10, 11, 12, 13, 14, 15, 16, 18] {
         assert!(refusals[question] > 0, "question {question}");
     }
     assert_eq!(refusals[1], 0);
@@ -190,7 +192,12 @@ fn count_files_do_not_change_tables() {
         let mut other = store.clone();
         for _ in 0..20 {
             let t = random.from(0, store.numbers.last);
-            let _ = if random.percent(60) { other.keep(t) } else { other.drop_file(t) };
+            let mark = random.pick(&[0, 5, 7]);
+            let _ = match random.from(0, 9) {
+                0..=5 => other.keep(t, mark),
+                6..=8 => other.drop_file(t),
+                _ => other.drop_marked(mark).map(|_| ()),
+            };
         }
         for t in [time(&mut random, &store), time(&mut random, &store), u64::MAX] {
             assert_eq!(table_at(&store, t), table_at(&other, t));
@@ -237,7 +244,7 @@ fn a_strangers_memory() {
 fn damage(random: &mut Random, store: &mut Store) {
     let Store { numbers, memory } = store;
     let byte = random.next() as u8;
-    match random.from(0, 6) {
+    match random.from(0, 7) {
         0 if memory.log.len() > 24 => {
             let place = random.from(24, memory.log.len() as u64 - 1) as usize;
             memory.log[place] = byte;
@@ -258,7 +265,11 @@ fn damage(random: &mut Random, store: &mut Store) {
             let place = random.place(memory.catalogue.len());
             memory.catalogue[place].rows = random.pick(&[0, 1, 7, u32::MAX]);
         }
-        5 => numbers.live = random.from(0, 7) as u32,
+        5 if !memory.catalogue.is_empty() => {
+            let place = random.place(memory.catalogue.len());
+            memory.catalogue[place].mark = random.pick(&[0, 5, 6, 7, u32::MAX]);
+        }
+        6 => numbers.live = random.from(0, 7) as u32,
         _ => numbers.files = random.from(0, 7) as u32,
     }
 }

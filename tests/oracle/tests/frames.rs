@@ -62,11 +62,11 @@ fn update_writes_two_records() {
 #[test]
 fn keep_shifts_up_and_writes_a_whole_area() {
     let mut store = by_hand();
-    store.keep(45).unwrap();
-    store.keep(20).unwrap();
+    store.keep(45, 7).unwrap();
+    store.keep(20, 5).unwrap();
     let mut expected = by_hand().memory;
-    expected.catalogue[0] = Entry { time: 20, rows: 2 };
-    expected.catalogue[1] = Entry { time: 45, rows: 1 };
+    expected.catalogue[0] = Entry { time: 20, rows: 2, mark: 5 };
+    expected.catalogue[1] = Entry { time: 45, rows: 1, mark: 7 };
     expected.areas[..64].fill(0);
     expected.areas[..16].copy_from_slice(&[3, 0, 0, 0, 12, 0, 0, 0, 7, 0, 0, 0, 50, 0, 0, 0]);
     expected.areas[32..40].copy_from_slice(&[7, 0, 0, 0, 44, 0, 0, 0]);
@@ -77,11 +77,11 @@ fn keep_shifts_up_and_writes_a_whole_area() {
 #[test]
 fn drop_shifts_down_and_zeroes_the_last_entry_and_area() {
     let mut store = by_hand();
-    store.keep(20).unwrap();
-    store.keep(45).unwrap();
+    store.keep(20, 5).unwrap();
+    store.keep(45, 7).unwrap();
     store.drop_file(20).unwrap();
     let mut expected = by_hand().memory;
-    expected.catalogue[0] = Entry { time: 45, rows: 1 };
+    expected.catalogue[0] = Entry { time: 45, rows: 1, mark: 7 };
     expected.areas[..64].fill(0);
     expected.areas[..8].copy_from_slice(&[7, 0, 0, 0, 44, 0, 0, 0]);
     assert_eq!(store.memory, expected);
@@ -93,10 +93,10 @@ fn drop_shifts_down_and_zeroes_the_last_entry_and_area() {
 fn sixteen_files() {
     let mut store = by_hand();
     for t in 1..=16 {
-        store.keep(t).unwrap();
+        store.keep(t, 0).unwrap();
     }
-    assert_eq!(common::refused(store.keep(17)), 15);
-    assert_eq!(store.memory.catalogue[16].time, STRANGE_WORD);
+    assert_eq!(common::refused(store.keep(17, 0)), 15);
+    assert_eq!(store.memory.catalogue[16..], strange().catalogue[16..]);
     assert!(store.memory.areas[16 * 32..].iter().all(|byte| *byte == STRANGE));
     assert!(store.audit());
 }

@@ -14,7 +14,7 @@ use oracle::table::table_bytes;
 const LATE: [u64; 3] = [61, 1 << 63, u64::MAX];
 
 fn kept(mut store: Store, times: &[u64]) -> Store {
-    times.iter().for_each(|&t| store.keep(t).unwrap());
+    times.iter().for_each(|&t| store.keep(t, 0).unwrap());
     store
 }
 
@@ -160,7 +160,7 @@ fn a_store_without_a_record() {
         }
     }
     let before = store.clone();
-    assert_eq!([0, 1, u64::MAX].map(|t| refused(store.keep(t))), [14, 12, 12]);
+    assert_eq!([0, 1, u64::MAX].map(|t| refused(store.keep(t, 0))), [14, 12, 12]);
     assert_eq!(store, before);
 }
 
@@ -169,12 +169,12 @@ fn a_store_without_a_record() {
 fn a_keep_waits_for_its_time() {
     let mut store = by_hand();
     let before = store.clone();
-    assert_eq!(LATE.map(|t| refused(store.keep(t))), [12; 3]);
+    assert_eq!(LATE.map(|t| refused(store.keep(t, 0))), [12; 3]);
     assert_eq!(store, before);
     store.delete(61, 9).unwrap();
-    assert_eq!([62, u64::MAX].map(|t| refused(store.keep(t))), [12; 2]);
-    store.keep(61).unwrap();
-    assert_eq!(store.kept(), [Entry { time: 61, rows: 1 }]);
+    assert_eq!([62, u64::MAX].map(|t| refused(store.keep(t, 0))), [12; 2]);
+    store.keep(61, 0).unwrap();
+    assert_eq!(store.kept(), [Entry { time: 61, rows: 1, mark: 0 }]);
     assert_eq!(store.view(61).unwrap(), view(Place::File(0), 1, Side::Earlier, 0));
     assert_eq!(store.view(62).unwrap(), view(Place::File(0), 1, Side::Earlier, 0));
     assert!(store.audit());
@@ -184,10 +184,10 @@ fn a_keep_waits_for_its_time() {
 #[test]
 fn a_late_keep_is_refused_before_it_is_looked_up() {
     let mut store = kept(by_hand(), &[60]);
-    assert_eq!(LATE.map(|t| refused(store.keep(t))), [12; 3]);
-    assert_eq!(refused(store.keep(60)), 14);
+    assert_eq!(LATE.map(|t| refused(store.keep(t, 0))), [12; 3]);
+    assert_eq!(refused(store.keep(60, 0)), 14);
     store.memory.catalogue.truncate(1);
-    assert_eq!(LATE.map(|t| refused(store.keep(t))), [12; 3]);
+    assert_eq!(LATE.map(|t| refused(store.keep(t, 0))), [12; 3]);
     // a drop asks only whether the time is kept
     assert_eq!(LATE.map(|t| refused(store.drop_file(t))), [16; 3]);
 }
@@ -241,7 +241,7 @@ fn questions_of_a_late_time() {
         assert_eq!([refused(store.units_between(t, 0)), refused(store.units_between(0, t))], [1; 2]);
         assert_eq!(refused(store.table(t, &mut output[..31])), 1);
         assert_eq!(refused(store.net_change(t, t, &mut output[..95], &mut workspace[..63])), 1);
-        assert_eq!(refused(store.keep(t)), 1);
+        assert_eq!(refused(store.keep(t, 0)), 1);
     }
     assert!(output.iter().chain(&workspace).all(|byte| *byte == STRANGE));
 }
@@ -253,10 +253,10 @@ fn the_last_times_there_are() {
     let mut store = opened_with(3, 2, 4, &[Insert(end - 1, 7, 50)]);
     assert_eq!([end - 2, end - 1, end].map(|t| position(&store, t)), [(0, 0), (0, 1), (0, 1)]);
     assert_eq!([end - 2, end - 1, end].map(|t| units(&store, t)), [0, 50, 50]);
-    assert_eq!(refused(store.keep(end)), 12);
+    assert_eq!(refused(store.keep(end, 0)), 12);
     store.insert(end, 3, 12).unwrap();
     assert_eq!([end - 1, end].map(|t| position(&store, t)), [(0, 1), (0, 2)]);
     assert_eq!([end - 1, end].map(|t| units(&store, t)), [50, 62]);
-    store.keep(end).unwrap();
+    store.keep(end, 0).unwrap();
     assert_eq!(store.view(end).unwrap(), view(Place::File(0), 2, Side::Earlier, 0));
 }

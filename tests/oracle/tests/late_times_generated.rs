@@ -83,7 +83,7 @@ fn a_late_time_is_answered_as_the_last_one() {
         if !records.is_empty() {
             kept = keep_some(&mut random, &mut store, &log);
         }
-        if random.percent(30) && store.keep(last).is_ok() {
+        if random.percent(30) && store.keep(last, 0).is_ok() {
             kept.insert(last);
         }
         let before = store.clone();
@@ -109,7 +109,7 @@ fn a_late_time_is_answered_as_the_last_one() {
         ];
         shown.iter().filter(|(_, met)| *met).for_each(|(name, _)| *met.entry(*name).or_default() += 1);
         // a keep of the same times is refused and changes nothing, whether or not there is space
-        late.iter().for_each(|&t| assert_eq!(refused(store.keep(t)), 12, "case {case}, time {t}"));
+        late.iter().for_each(|&t| assert_eq!(refused(store.keep(t, 0)), 12, "case {case}, time {t}"));
         assert_eq!(store, before, "case {case}");
     }
     assert_eq!(met.len(), 7, "{met:?}");

@@ -1,11 +1,11 @@
 //! The random lists of calls that two stores are compared by: they meet every call, every question, every
-//! capacity, times after the last request, logs with several wrong records, and memory that the audit denies.
+//! capacity, times after the last request, marks, logs with several wrong records, and memory that the audit denies.
 
 mod common;
 
 use common::units::{shown_at, shown_between, told_apart, wrong_differences, wrong_totals, NAMES};
 use common::{candidates, legal::form_right, records_between, side_by_pages};
-use oracle::calls::{call, damage, start, Call, Late, Plan};
+use oracle::calls::{call, damage, start, Call, Late, Marks, Plan};
 use oracle::layout::Header;
 use oracle::limits::{ORDERS, PAGE_SIZES};
 use oracle::log::records;
@@ -38,6 +38,8 @@ struct Met {
     late: Late,
     /// and the views of such times: place without its number, side, requests between
     late_views: BTreeMap<(&'static str, bool, u32), u32>,
+    /// marks, on memory that the audit passes or question 1 denies, and those that an audit meets after damage
+    marks: Marks,
     /// tables and views of other times, on memory that the audit passes, with the other side by pages, and whether the
     /// later outset was used
     other_by_pages: BTreeMap<(&'static str, bool), u32>,
@@ -141,7 +143,7 @@ fn make(store: &mut Store, call: Call, met: &mut Met) -> Result<(), Refusal> {
         Call::UnitsBetween(a, b) => {
             store.units_between(a, b).map(|between| met.units_between(store, a, b, between))
         }
-        Call::Keep(t) => store.keep(t).map(|()| {
+        Call::Keep(t, mark) => store.keep(t, mark).map(|()| {
             met.keeps.insert((store.capacity(), store.numbers.files));
         }),
         Call::Drop(t) => {
@@ -151,6 +153,7 @@ fn make(store: &mut Store, call: Call, met: &mut Met) -> Result<(), Refusal> {
                 met.drops.insert((place, before.kept().len() - place - 1));
             })
         }
+        Call::DropMarked(mark) => store.drop_marked(mark).map(drop),
         Call::Audit => {
             met.audits[store.audit() as usize] += 1;
             Ok(())
@@ -171,11 +174,16 @@ fn list(random: &mut Random, met: &mut Met) {
         damaged |= matches!(next, Call::Damage(_));
         if damaged && store.position(0).is_ok() && !store.audit() {
             *met.denied.entry(next.name()).or_default() += 1;
+        } else {
+            met.marks.note(&next, &store);
         }
         let last = store.numbers.last;
         let question = make(&mut store, next, met).map_or_else(|refusal| refusal.question, |()| 0);
+        if matches!(next, Call::Damage(_)) {
+            met.marks.note(&Call::Audit, &store);
+        }
         // a query leaves the memory that it was asked on, and so does a refused keep
-        let expected = if let Call::Keep(_) = next { 12 } else { 0 };
+        let expected = if let Call::Keep(..) = next { 12 } else { 0 };
         if question == expected && (!damaged || store.audit()) {
             met.late.note(&next, last);
         }
@@ -215,8 +223,9 @@ fn every_call_ends_by_every_question() {
         Call::NetChange(0, 0, 0, 0),
         Call::Units(0),
         Call::UnitsBetween(0, 0),
-        Call::Keep(0),
+        Call::Keep(0, 0),
         Call::Drop(0),
+        Call::DropMarked(0),
     ];
     for call in calls {
         for &question in [0].iter().chain(call.questions()) {
@@ -247,7 +256,8 @@ fn late_times_are_told_apart() {
     early.iter().for_each(|call| late.note(call, 60));
     assert!(late.all().iter().all(|(_, often)| *often == 0));
     let (end, pair) = (u64::MAX, |a, b| Call::NetChange(a, b, 0, 0));
-    let calls = [Call::Position(61), Call::Keep(69), Call::UnitsBetween(70, 60), pair(60, 61), pair(61, end)];
+    let calls =
+        [Call::Position(61), Call::Keep(69, 0), Call::UnitsBetween(70, 60), pair(60, 61), pair(61, end)];
     calls.iter().chain(&calls[..1]).for_each(|call| late.note(call, 60));
     let met: Vec<_> = late.all().into_iter().filter(|(_, often)| *often > 0).collect();
     let expected = [
@@ -271,6 +281,13 @@ fn times_after_the_last_are_met() {
     let views: Vec<_> = late_views.keys().copied().collect();
     assert_eq!(views, [("area", false, 0), ("current", true, 0), ("empty", false, 0)]);
     assert!(late_views.values().all(|often| *often >= 50), "{late_views:?}");
+}
+
+/// Each mark kept, dropped and deleted, wrong ones beside every other question, neighbours that go and files that stay.
+#[test]
+fn marks_are_met() {
+    let marks = &lists().marks;
+    assert!(marks.each(20), "{:#?}", marks.all());
 }
 
 #[test]
@@ -326,7 +343,7 @@ fn denied_memory_is_met() {
     let met = lists();
     let appends = ["insert", "delete", "update"];
     let queries = ["position", "table", "view", "net change", "units", "units between"];
-    for later in appends.iter().chain(&queries).chain(&["keep", "drop"]) {
+    for later in appends.iter().chain(&queries).chain(&["keep", "drop", "marked deletion"]) {
         assert!(met.denied[later] > 100, "{later}");
     }
     assert!(met.denied["audit"] > 100);

@@ -183,6 +183,6 @@ fn empty_log() {
     store.open().unwrap();
     assert!(store.audit());
     assert_eq!((position(&store, 0), position(&store, 1)), ((0, 0), (0, 0)));
-    assert_eq!(refused(store.keep(0)), 14);
-    assert_eq!(refused(store.keep(1)), 12);
+    assert_eq!(refused(store.keep(0, 0)), 14);
+    assert_eq!(refused(store.keep(1, 0)), 12);
 }

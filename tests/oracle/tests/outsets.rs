@@ -38,7 +38,7 @@ fn by_tens(kept: &[u64]) -> Store {
 }
 
 fn with_kept(mut store: Store, times: &[u64]) -> Store {
-    times.iter().for_each(|&t| store.keep(t).unwrap());
+    times.iter().for_each(|&t| store.keep(t, 0).unwrap());
     store
 }
 
@@ -114,7 +114,7 @@ fn a_file_at_the_last_time_goes_before_the_current_table() {
 /// A file between t and the last time is the later candidate, and the current table is not.
 #[test]
 fn ties() {
-    let file = |time| Entry { time, rows: 0 };
+    let file = |time| Entry { time, rows: 0, mark: 0 };
     let chosen = |files: &[Entry], t| {
         let outset = choose(by_fives, files, 55, t);
         (outset.held.place, outset.side, outset.requests_between)
@@ -134,7 +134,7 @@ fn ties() {
 
 #[test]
 fn candidates() {
-    let files = [Entry { time: 20, rows: 1 }, Entry { time: 40, rows: 1 }];
+    let files = [Entry { time: 20, rows: 1, mark: 0 }, Entry { time: 40, rows: 1, mark: 0 }];
     assert_eq!(held(&files, 40).len(), 4);
     assert_eq!(earlier_candidate(&files, 40, 39), Held { time: 20, place: Place::File(0) });
     assert_eq!(earlier_candidate(&files, 40, 19), Held { time: 0, place: Place::Empty });
@@ -158,7 +158,7 @@ fn pages_tie_and_requests_do_not() {
     assert_eq!(used(&store, 30), (Place::File(1), Side::Later, 1));
     // 1 and 3: 25, 30 and 45 are on pages 1, 2 and 3
     assert_eq!([25, 30, 45].map(|t| by_fives(t).page), [1, 2, 3]);
-    let files = [Entry { time: 25, rows: 4 }, Entry { time: 45, rows: 8 }];
+    let files = [Entry { time: 25, rows: 4, mark: 0 }, Entry { time: 45, rows: 8, mark: 0 }];
     let outset = choose(by_fives, &files, 55, 30);
     assert_eq!((outset.held.place, outset.side, outset.requests_between), (Place::File(0), Side::Earlier, 1));
 }

@@ -84,8 +84,11 @@ fn question_1_numbers() {
         refuses(&mut store, 1, |store| store.net_change(61, 61, &mut [], &mut []).map(|_| ()));
         refuses(&mut store, 1, |store| store.units(61).map(|_| ()));
         refuses(&mut store, 1, |store| store.units_between(61, 61).map(|_| ()));
-        refuses(&mut store, 1, |store| store.keep(61));
+        refuses(&mut store, 1, |store| store.keep(61, 0));
+        refuses(&mut store, 1, |store| store.keep(61, 6));
         refuses(&mut store, 1, |store| store.drop_file(61));
+        refuses(&mut store, 1, |store| store.drop_marked(6).map(|_| ()));
+        refuses(&mut store, 1, |store| store.drop_marked(5).map(|_| ()));
         assert!(!store.audit());
     }
 }
@@ -113,8 +116,8 @@ fn question_1_lengths() {
     memory.log = log_by_hand();
     let mut store = Store::over(memory);
     store.open().unwrap();
-    store.keep(20).unwrap();
-    store.keep(40).unwrap();
+    store.keep(20, 0).unwrap();
+    store.keep(40, 0).unwrap();
     assert_eq!(position(&store, 60), (3, 8));
     assert!(store.audit());
     for shorten in shorter {
@@ -143,7 +146,7 @@ fn question_1_no_record_but_a_last_time() {
 #[test]
 fn question_1_asks_nothing_else() {
     let mut store = by_hand();
-    store.keep(20).unwrap();
+    store.keep(20, 0).unwrap();
     store.memory.log[24..].fill(STRANGE);
     store.memory.index.fill(7);
     store.memory.table.fill(STRANGE);
@@ -293,26 +296,38 @@ fn queries() {
 fn keep_and_drop() {
     let mut store = opened(&log_by_hand());
     store.memory.catalogue.truncate(2);
-    store.keep(20).unwrap();
+    store.keep(20, 0).unwrap();
     // not full: 14, then space
-    refuses(&mut store, 12, |store| store.keep(61));
-    refuses(&mut store, 14, |store| store.keep(0));
-    refuses(&mut store, 14, |store| store.keep(20));
+    refuses(&mut store, 12, |store| store.keep(61, 0));
+    refuses(&mut store, 14, |store| store.keep(0, 0));
+    refuses(&mut store, 14, |store| store.keep(20, 0));
+    refuses(&mut store, 14, |store| store.keep(20, 5));
+    // a wrong mark: 12 goes before 18, and 18 before 14
+    refuses(&mut store, 12, |store| store.keep(61, 6));
+    refuses(&mut store, 18, |store| store.keep(0, 6));
+    refuses(&mut store, 18, |store| store.keep(20, 6));
+    refuses(&mut store, 18, |store| store.keep(60, 6));
     // between two requests, before the first and at the last time: all may be kept
-    store.keep(25).unwrap();
+    store.keep(25, 0).unwrap();
     // full: 14 goes before 15
-    refuses(&mut store, 12, |store| store.keep(61));
-    refuses(&mut store, 14, |store| store.keep(0));
-    refuses(&mut store, 14, |store| store.keep(25));
-    refuses(&mut store, 15, |store| store.keep(60));
+    refuses(&mut store, 12, |store| store.keep(61, 0));
+    refuses(&mut store, 14, |store| store.keep(0, 0));
+    refuses(&mut store, 14, |store| store.keep(25, 0));
+    refuses(&mut store, 15, |store| store.keep(60, 0));
+    refuses(&mut store, 15, |store| store.keep(60, 7));
+    // full and a wrong mark: 12, then 18, before the others
+    refuses(&mut store, 12, |store| store.keep(61, 6));
+    refuses(&mut store, 18, |store| store.keep(0, 6));
+    refuses(&mut store, 18, |store| store.keep(25, 6));
+    refuses(&mut store, 18, |store| store.keep(60, 6));
     refuses(&mut store, 16, |store| store.drop_file(0));
     refuses(&mut store, 16, |store| store.drop_file(60));
     refuses(&mut store, 16, |store| store.drop_file(61));
     store.drop_file(20).unwrap();
-    store.keep(1).unwrap();
+    store.keep(1, 0).unwrap();
     assert_eq!(store.memory.catalogue[0].rows, 0);
     store.drop_file(25).unwrap();
-    store.keep(60).unwrap();
+    store.keep(60, 0).unwrap();
     assert!(store.audit());
 }
 
@@ -320,6 +335,7 @@ fn keep_and_drop() {
 fn a_store_without_capacity_keeps_nothing() {
     let mut store = by_hand();
     store.memory.areas.truncate(31);
-    refuses(&mut store, 15, |store| store.keep(20));
+    refuses(&mut store, 15, |store| store.keep(20, 0));
+    refuses(&mut store, 18, |store| store.keep(20, 6));
     assert!(store.audit());
 }

@@ -68,7 +68,7 @@ fn article_0_with_count_0_is_a_row() {
     assert_eq!(table(&store, 9).1.rows, 0);
     assert_eq!(common::net_change(&store, 9, 10), [(INSERTION, 0, 0)]);
     assert_eq!(common::refused(store.insert(20, 0, 5)), 7);
-    store.keep(10).unwrap();
+    store.keep(10, 0).unwrap();
     assert_eq!(store.view(10).unwrap().length, 8);
     store.insert(20, 1, 0).unwrap();
     assert_eq!(common::refused(store.insert(30, 2, 0)), 9);
@@ -81,11 +81,11 @@ fn article_0_with_count_0_is_a_row() {
 #[test]
 fn files_without_rows() {
     let mut store = opened_with(3, 2, 2, &[Insert(10, 7, 50), Delete(20, 7, 50), Insert(30, 7, 1)]);
-    store.keep(25).unwrap();
-    store.keep(5).unwrap();
+    store.keep(25, 0).unwrap();
+    store.keep(5, 0).unwrap();
     assert_eq!(store.numbers.files, 2);
     assert_eq!(store.kept()[0].rows + store.kept()[1].rows, 0);
-    assert_eq!(common::refused(store.keep(25)), 14);
+    assert_eq!(common::refused(store.keep(25, 0)), 14);
     let view = store.view(25).unwrap();
     assert_eq!((view.place, view.rows), (oracle::outset::Place::File(1), 0));
     assert_eq!((view.start, view.length), (16, 0));

@@ -3,6 +3,7 @@
 
 use oracle::limits::{MOST_FILES, MOST_RECORDS};
 use oracle::log::log_length;
+use oracle::mark::{FRIDAY, PERMANENT};
 use oracle::plain::Plain;
 use oracle::position::Position;
 use oracle::proved::{Memory, Store};
@@ -100,6 +101,7 @@ fn main() {
 
     queries(&proved, &plain, &asked[..TABLES], "no file");
     keep_and_drop(&mut proved, &mut plain, &mut random);
+    drop_marked(&mut proved, &mut plain);
     queries(&proved, &plain, &asked[..TABLES], "16 files");
     colliding_tables(&mut proved, &mut plain, &mut random);
 }
@@ -179,35 +181,59 @@ fn units(proved: &Store, plain: &Plain, asked: &[u64], pairs: &[[u64; 2]], files
     between.line(&format!("units between, {files}"), "µs", 1e3 * pairs.len() as f64);
 }
 
-/// Keeps 16 files in any order, and drops them in another; they are kept again at the end.
+/// Keeps 16 files in any order, and drops them in another; they are kept again at the end. By their times every second
+/// one is to go on Friday.
 fn keep_and_drop(proved: &mut Store, plain: &mut Plain, random: &mut Random) {
     let last = plain.numbers.last;
-    let mut times: Vec<u64> = (1..=MOST_FILES as u64).map(|k| last * k / (MOST_FILES as u64 + 1)).collect();
-    shuffle(random, &mut times);
-    let mut dropped = times.clone();
+    let time = |k: usize| last * k as u64 / (MOST_FILES as u64 + 1);
+    let mut files: Vec<(u64, u32)> =
+        (1..=MOST_FILES).map(|k| (time(k), if k % 2 == 0 { PERMANENT } else { FRIDAY })).collect();
+    shuffle(random, &mut files);
+    let mut dropped = files.clone();
     shuffle(random, &mut dropped);
     let (mut keep, mut drop) = (Fastest::new(), Fastest::new());
     for _ in 0..RUNS {
         keep.run(
-            || times.iter().for_each(|&t| proved.keep(t).unwrap()),
-            || times.iter().for_each(|&t| plain.keep(t).unwrap()),
+            || files.iter().for_each(|&(t, mark)| proved.keep(t, mark).unwrap()),
+            || files.iter().for_each(|&(t, mark)| plain.keep(t, mark).unwrap()),
         );
         same(proved, plain);
         drop.run(
-            || dropped.iter().for_each(|&t| proved.drop_file(t).unwrap()),
-            || dropped.iter().for_each(|&t| plain.drop_file(t).unwrap()),
+            || dropped.iter().for_each(|&(t, _)| proved.drop_file(t).unwrap()),
+            || dropped.iter().for_each(|&(t, _)| plain.drop_file(t).unwrap()),
         );
         same(proved, plain);
     }
     keep.line("keep, of 16 files", "µs", 1e3 * MOST_FILES as f64);
     drop.line("drop, of 16 files", "µs", 1e3 * MOST_FILES as f64);
-    for &t in &times {
-        proved.keep(t).unwrap();
-        plain.keep(t).unwrap();
+    keep_all(proved, plain, &files);
+}
+
+/// Deletes the files that are to go on Friday, every second one; they are kept again each time.
+fn drop_marked(proved: &mut Store, plain: &mut Plain) {
+    let mut marked: Vec<(u64, u32)> = plain.entries.iter().map(|entry| (entry.time, entry.mark)).collect();
+    marked.retain(|(_, mark)| *mark == FRIDAY);
+    let mut deletion = Fastest::new();
+    for _ in 0..RUNS {
+        deletion.run(
+            || assert_eq!(proved.drop_marked(FRIDAY), Ok(marked.len() as u32)),
+            || assert_eq!(plain.drop_marked(FRIDAY), Ok(marked.len() as u32)),
+        );
+        same(proved, plain);
+        keep_all(proved, plain, &marked);
+    }
+    same(proved, plain);
+    deletion.line(&format!("drop marked, {} of {MOST_FILES}", marked.len()), "µs", 1e3);
+}
+
+fn keep_all(proved: &mut Store, plain: &mut Plain, files: &[(u64, u32)]) {
+    for &(t, mark) in files {
+        proved.keep(t, mark).unwrap();
+        plain.keep(t, mark).unwrap();
     }
 }
 
-fn shuffle(random: &mut Random, list: &mut [u64]) {
+fn shuffle<T>(random: &mut Random, list: &mut [T]) {
     for k in (1..list.len()).rev() {
         list.swap(k, random.place(k + 1));
     }

@@ -3,7 +3,7 @@
 //! audit denies, where 01 leaves most answers open, it compares question 1, that a refusal changes nothing, the
 //! bytes no call names, and the audit's own answer. Bytes are lent at odd places, others from call to call.
 
-use oracle::calls::{call, damage, last_records, start, Call, Late, Plan};
+use oracle::calls::{call, damage, last_records, start, Call, Late, Marks, Plan};
 use oracle::layout::HEADER_BYTES;
 use oracle::lent::{Lent, STRANGE};
 use oracle::log::log_length;
@@ -21,7 +21,7 @@ use std::process::ExitCode;
 /// The seed where none is given, so that two runs make the same lists.
 const SEED: u64 = 2055;
 
-/// A run of so many lists must meet every kind of time after the last request.
+/// A run of so many lists must meet every kind of time after the last request and of mark.
 const LONG: u64 = 2_000;
 
 /// Stores near the most records there are: order, page size, records left.
@@ -31,6 +31,8 @@ const ENDS: [(u16, u16, u32); 4] = [(64, 64, 2), (64, 64, 1), (3, 2, 2), (2, 2, 
 #[derive(Clone, Debug, PartialEq, Eq)]
 enum Answer {
     Change(Result<(), Refusal>),
+    /// how many count files went
+    Gone(Result<u32, Refusal>),
     Position(Result<Position, Refusal>),
     Table(Result<TableAnswer, Refusal>, Vec<u8>),
     View(Result<View, Refusal>),
@@ -66,8 +68,9 @@ macro_rules! answer {
             }
             Call::Units(t) => Answer::Units($store.units(t)),
             Call::UnitsBetween(a, b) => Answer::UnitsBetween($store.units_between(a, b)),
-            Call::Keep(t) => Answer::Change($store.keep(t)),
+            Call::Keep(t, mark) => Answer::Change($store.keep(t, mark)),
             Call::Drop(t) => Answer::Change($store.drop_file(t)),
+            Call::DropMarked(mark) => Answer::Gone($store.drop_marked(mark)),
             Call::Audit => Answer::Audit($store.audit()),
             Call::Damage(_) => Answer::None,
         }
@@ -78,6 +81,7 @@ impl Answer {
     fn refusal(&self) -> Option<Refusal> {
         match self {
             Answer::Change(result) => result.err(),
+            Answer::Gone(result) => result.err(),
             Answer::Position(result) => result.err(),
             Answer::Table(result, _) => result.err(),
             Answer::View(result) => result.err(),
@@ -87,6 +91,13 @@ impl Answer {
             Answer::Audit(_) | Answer::None => None,
         }
     }
+}
+
+/// What lists met where answers are compared whole.
+#[derive(Default)]
+struct Met {
+    late: Late,
+    marks: Marks,
 }
 
 struct Difference {
@@ -108,10 +119,13 @@ fn main() -> ExitCode {
             );
         }
     }
-    let mut late = Late::default();
+    let mut met = Met::default();
     for number in 0..lists {
         match catch_unwind(|| compare_list(&mut Random::for_case(seed, number))) {
-            Ok(Ok(more)) => late.add(more),
+            Ok(Ok(Met { late, marks })) => {
+                met.late.add(late);
+                met.marks.add(marks);
+            }
             Ok(Err(difference)) => return report(&format!("seed {seed}, list {number}"), &difference),
             Err(_) => {
                 println!("seed {seed}, list {number}: stopped");
@@ -120,23 +134,33 @@ fn main() -> ExitCode {
         }
     }
     println!("{lists} lists of calls agree (seed {seed})");
-    report_late(&late, lists)
+    report_late(&met.late);
+    report_marks(&met.marks);
+    let met_all = met.late.all().iter().all(|(_, often)| *often > 0) && met.marks.each(1);
+    if !met_all && lists >= LONG {
+        println!("one of these was never met");
+        return ExitCode::FAILURE;
+    }
+    ExitCode::SUCCESS
 }
 
-/// How often which call was asked for a time after the last request. Fails if a long run never met one kind of it.
-fn report_late(late: &Late, lists: u64) -> ExitCode {
+/// How often which call was asked for a time after the last request.
+fn report_late(late: &Late) {
     println!("times after the last request:");
     for kinds in late.all().chunk_by(|(kind, _), (next, _)| kind[..2] == next[..2]) {
         let [name, which, _] = kinds[0].0;
         let each: Vec<String> = kinds.iter().map(|([.., far], often)| format!("{far} {often}")).collect();
         println!("  {name}, {which}: {}", each.join(", "));
     }
-    let never = late.all().iter().any(|(_, often)| *often == 0);
-    if never && lists >= LONG {
-        println!("one of these was never met");
-        return ExitCode::FAILURE;
+}
+
+/// How often which call met what of the marks.
+fn report_marks(marks: &Marks) {
+    println!("marks:");
+    for kinds in marks.all().chunk_by(|([name, _], _), ([next, _], _)| name == next) {
+        let each: Vec<String> = kinds.iter().map(|([_, what], often)| format!("{what} {often}")).collect();
+        println!("  {}: {}", kinds[0].0[0], each.join("; "));
     }
-    ExitCode::SUCCESS
 }
 
 fn report(list: &str, Difference { calls, what }: &Difference) -> ExitCode {
@@ -153,16 +177,15 @@ fn read_arguments(arguments: &[String]) -> Option<(u64, u64)> {
     }
 }
 
-/// One list, up to its end or the first difference: the times after the last request that it asked for where answers
-/// are compared whole.
-fn compare_list(random: &mut Random) -> Result<Late, Difference> {
+/// One list, up to its end or the first difference: what it met where answers are compared whole.
+fn compare_list(random: &mut Random) -> Result<Met, Difference> {
     let (memory, first) = start(random);
     let plan = Plan::new(random);
     let mut oracle = Store::over(memory);
     // numbers and memory of the proved store
     let mut proved = oracle.clone();
     let mut calls = Vec::new();
-    let mut late = Late::default();
+    let mut met = Met::default();
     let mut damaged = false;
     let mut next = first;
     for _ in 0..plan.calls {
@@ -173,6 +196,7 @@ fn compare_list(random: &mut Random) -> Result<Late, Difference> {
                 damaged = true;
                 damage(&mut oracle, seed);
                 proved = oracle.clone();
+                met.marks.note(&Call::Audit, &oracle);
                 compare_whole(&mut oracle, &mut proved, Call::Audit, odd)
             }
             // these two are promised on any memory
@@ -180,11 +204,18 @@ fn compare_list(random: &mut Random) -> Result<Late, Difference> {
                 damaged = false;
                 compare_whole(&mut oracle, &mut proved, next, odd)
             }
-            _ if damaged && !oracle.audit() => compare_denied(&mut oracle, &mut proved, next, odd),
+            _ if damaged && !oracle.audit() => {
+                // a refusal by 1 is compared here too
+                if !question_1(&oracle) {
+                    met.marks.note(&next, &oracle);
+                }
+                compare_denied(&mut oracle, &mut proved, next, odd)
+            }
             _ => {
                 if question_1(&oracle) {
-                    late.note(&next, oracle.numbers.last);
+                    met.late.note(&next, oracle.numbers.last);
                 }
+                met.marks.note(&next, &oracle);
                 compare_whole(&mut oracle, &mut proved, next, odd)
             }
         };
@@ -193,7 +224,7 @@ fn compare_list(random: &mut Random) -> Result<Late, Difference> {
     }
     calls.push(Call::Audit);
     compare_whole(&mut oracle, &mut proved, Call::Audit, 0).map_err(|what| Difference { calls, what })?;
-    Ok(late)
+    Ok(met)
 }
 
 /// The list of a store near its last record.
@@ -273,15 +304,15 @@ fn question_1(store: &Store) -> bool {
 }
 
 /// Only what 01 says that the call writes may differ: of an append the header, the slots of its records, the
-/// nodes then needed and the table; of a keep and a drop the entries and the areas of the files.
+/// nodes then needed and the table; of a keep, a drop and a marked deletion the entries and the areas of the files.
 fn only_named(before: &Store, after: &Memory, call: Call) -> Result<(), String> {
     let mut named = before.memory.clone();
     let Numbers { order, page_size, row_limit, records, files, .. } = before.numbers;
     let (more_records, files) = match call {
         Call::Insert(..) | Call::Delete(..) => (1, 0),
         Call::Update(..) => (2, 0),
-        Call::Keep(_) => (0, files as usize + 1),
-        Call::Drop(_) => (0, files as usize),
+        Call::Keep(..) => (0, files as usize + 1),
+        Call::Drop(_) | Call::DropMarked(_) => (0, files as usize),
         _ => (0, 0),
     };
     if question_1(before) && more_records > 0 {

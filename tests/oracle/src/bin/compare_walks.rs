@@ -2,6 +2,7 @@
 //! any number, and on articles that share one slot of the walk's hints, which then lead nowhere.
 
 use oracle::log::log_length;
+use oracle::mark::MARKS;
 use oracle::plain::Plain;
 use oracle::proved::{Memory, Store};
 use oracle::random::Random;
@@ -80,8 +81,9 @@ fn compare(random: &mut Random, row_limit: u32, pool: Option<&[u32]>) -> usize {
         }
         if k < FILES as u64 {
             let t = last * (k + 1) / (FILES as u64 + 1);
-            proved.keep(t).unwrap();
-            plain.keep(t).unwrap();
+            let mark = MARKS[k as usize % MARKS.len()];
+            proved.keep(t, mark).unwrap();
+            plain.keep(t, mark).unwrap();
         }
     }
     assert!(proved.memory.areas == plain.areas && proved.memory.entries == plain.entries);

@@ -1,6 +1,7 @@
 //! Stores that are right but for one thing, which the audit must see: a wrong log that numbers, index and table
-//! agree with, or a wrong count file.
+//! agree with, a wrong count file, or a wrong mark.
 
+use super::any_mark;
 use crate::layout::{Header, Record, DELETION, HEADER_BYTES, INSERTION, ROW_BYTES};
 use crate::limits::{MOST_RECORDS, ORDERS, PAGE_SIZES, ROW_LIMITS};
 use crate::log::{log_length, page_times, records};
@@ -93,7 +94,8 @@ pub fn wrong_file(random: &mut Random, Store { numbers, memory }: &mut Store) {
         }
         // the current table, but after the last time
         2 => {
-            catalogue[files - 1] = Entry { time: last.saturating_add(1), rows: live };
+            let mark = catalogue[files - 1].mark;
+            catalogue[files - 1] = Entry { time: last.saturating_add(1), rows: live, mark };
             areas[(files - 1) * length..files * length].copy_from_slice(&table[..length]);
         }
         // the empty table of time 0
@@ -114,5 +116,16 @@ pub fn wrong_file(random: &mut Random, Store { numbers, memory }: &mut Store) {
             (from..ROW_BYTES).for_each(|k| areas.swap(i * length + k, i * length + ROW_BYTES + k))
         }
         _ => {}
+    }
+}
+
+/// The mark of an entry, mostly of a used one, sometimes past the capacity. Where it is another right mark of a used one,
+/// the audit says yes.
+pub fn other_mark(random: &mut Random, Store { numbers, memory }: &mut Store) {
+    let entries = memory.catalogue.len();
+    let used = entries.min(numbers.files as usize);
+    let among = if used > 0 && random.percent(60) { used } else { entries };
+    if among > 0 {
+        memory.catalogue[random.place(among)].mark = any_mark(random);
     }
 }

@@ -1,6 +1,7 @@
 //! What a stranger does to a store.
 
-use super::almost::{wrong_file, wrong_log};
+use super::almost::{other_mark, wrong_file, wrong_log};
+use super::any_mark;
 use crate::layout::{Header, HEADER_BYTES};
 use crate::limits::MOST_RECORDS;
 use crate::outset::Entry;
@@ -10,9 +11,10 @@ use crate::store::{Memory, Numbers, Store};
 /// Does one thing to a store, mostly where question 1 does not look.
 pub fn damage(store: &mut Store, seed: u64) {
     let mut random = Random::new(seed);
-    match random.from(0, 9) {
+    match random.from(0, 11) {
         0..=1 => wrong_log(&mut random, store),
         2..=3 => wrong_file(&mut random, store),
+        4..=5 => other_mark(&mut random, store),
         _ => write_anywhere(&mut random, store),
     }
 }
@@ -28,6 +30,7 @@ fn write_anywhere(random: &mut Random, Store { numbers, memory }: &mut Store) {
         8..=9 => write(random, &mut memory.catalogue, |random| Entry {
             time: random.from(0, 40),
             rows: random.pick(&[0, 1, 7, 1025, u32::MAX]),
+            mark: any_mark(random),
         }),
         10..=12 => write(random, &mut memory.areas, any_byte),
         13 => numbers.live = random.from(0, 1 + numbers.row_limit as u64) as u32,
@@ -79,7 +82,10 @@ fn lend_otherwise(random: &mut Random, memory: &mut Memory) {
         0 => memory.log.resize(shorter(random, memory.log.len()), 0x3C),
         1 => memory.index.resize(shorter(random, memory.index.len()), 0x3C),
         2 => memory.table.resize(shorter(random, memory.table.len()), 0x3C),
-        3 => memory.catalogue.resize(shorter(random, memory.catalogue.len()), Entry { time: 3, rows: 1 }),
+        3 => {
+            let entry = Entry { time: 3, rows: 1, mark: 5 };
+            memory.catalogue.resize(shorter(random, memory.catalogue.len()), entry)
+        }
         _ => memory.areas.resize(shorter(random, memory.areas.len()), 0x3C),
     }
 }

@@ -55,7 +55,7 @@ impl Late {
 /// Which of the call's times are after the last request, and the later one of those.
 fn late(call: &Call, last: u64) -> Option<(&'static str, u64)> {
     match *call {
-        Call::Position(t) | Call::Table(t, _) | Call::View(t) | Call::Units(t) | Call::Keep(t) => {
+        Call::Position(t) | Call::Table(t, _) | Call::View(t) | Call::Units(t) | Call::Keep(t, _) => {
             (t > last).then_some(("its time", t))
         }
         Call::NetChange(a, b, ..) | Call::UnitsBetween(a, b) => match (a > last, b > last) {

@@ -1,9 +1,11 @@
 //! How a list goes on: a call for the store as it is.
 
 use super::start::settings;
-use super::{near, Call, Plan};
+use super::{near, Call, Plan, WRONG_MARKS};
 use crate::layout::{Record, Row, HEADER_BYTES, RECORD_BYTES, ROW_BYTES};
 use crate::log::log_length;
+use crate::mark::{PERMANENT, TO_DELETE};
+use crate::outset::Entry;
 use crate::random::Random;
 use crate::store::{Numbers, Store};
 use crate::table::table_length;
@@ -28,8 +30,7 @@ pub fn call(random: &mut Random, plan: &Plan, store: &Store) -> Call {
     }
     let t = asked(random, store);
     if random.percent(plan.files) {
-        let keeps = random.percent(plan.keeps);
-        return if keeps { Call::Keep(t) } else { Call::Drop(kept_time(random, store).unwrap_or(t)) };
+        return of_files(random, plan, store, t);
     }
     let length = table_length(row_limit.min(1024));
     match random.from(0, 99) {
@@ -59,6 +60,25 @@ fn append(random: &mut Random, plan: &Plan, store: &Store, time: u64) -> Call {
         54..=73 => Call::Delete(time, article(random, plan, store, 85)),
         _ => Call::Update(time, article(random, plan, store, 85), count),
     }
+}
+
+/// A keep, a drop or a marked deletion.
+fn of_files(random: &mut Random, plan: &Plan, store: &Store, t: u64) -> Call {
+    // where there is none yet, mostly a keep
+    if random.percent(plan.keeps) || (store.numbers.files == 0 && random.percent(70)) {
+        let marks = if random.percent(8) { &WRONG_MARKS } else { plan.marks };
+        return Call::Keep(t, random.pick(marks));
+    }
+    if random.percent(40) {
+        return Call::Drop(kept_time(random, store).unwrap_or(t));
+    }
+    let kept = kept_entry(random, store).map(|entry| entry.mark).filter(|mark| TO_DELETE.contains(mark));
+    Call::DropMarked(match random.from(0, 99) {
+        0..=7 => PERMANENT,
+        8..=15 => random.pick(&WRONG_MARKS),
+        16..=39 => random.pick(&TO_DELETE),
+        _ => kept.unwrap_or(random.pick(&TO_DELETE)),
+    })
 }
 
 /// In a hundred times, so often an article that is present; else any of the plan's.
@@ -115,9 +135,14 @@ fn request_time(random: &mut Random, store: &Store) -> Option<u64> {
     Some(Record::read(&store.memory.log[place..place + RECORD_BYTES]).time)
 }
 
-/// The time of one of the count files, as far as the lent entries go.
+/// The time of one of the count files, mostly.
 fn kept_time(random: &mut Random, store: &Store) -> Option<u64> {
+    kept_entry(random, store).filter(|_| random.percent(85)).map(|entry| entry.time)
+}
+
+/// The entry of one of the count files, as far as the lent ones go.
+fn kept_entry(random: &mut Random, store: &Store) -> Option<Entry> {
     let catalogue = &store.memory.catalogue;
     let files = catalogue.len().min(store.numbers.files as usize);
-    (files > 0 && random.percent(85)).then(|| catalogue[random.place(files)].time)
+    (files > 0).then(|| catalogue[random.place(files)])
 }

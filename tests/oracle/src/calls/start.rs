@@ -101,13 +101,20 @@ pub fn last_records(order: u16, page_size: u16, left: u32) -> (Memory, Vec<Call>
     let mut calls = vec![Call::Open];
     for t in 65_600..65_602 {
         calls.extend([Call::Update(t, 7, 1), Call::Insert(t + 10, 8, 2), Call::Delete(t + 20, 8)]);
-        calls.extend([Call::Position(t), Call::Table(t, 16), Call::Keep(t), Call::Keep(t / 2)]);
+        calls.extend([Call::Position(t), Call::Table(t, 16), Call::Keep(t, 5), Call::Keep(t / 2, 7)]);
         calls.extend([Call::View(t / 2 + 1), Call::NetChange(t / 2, t, 48, 32), Call::Units(t / 2)]);
-        calls.extend([Call::Units(t), Call::UnitsBetween(t, t / 2 + 1), Call::Audit, Call::Drop(t)]);
+        calls.extend([Call::Units(t), Call::UnitsBetween(t, t / 2 + 1), Call::Audit, Call::DropMarked(5)]);
+        calls.extend([Call::Keep(t / 2 + 1, 0), Call::DropMarked(7), Call::Audit, Call::Drop(t)]);
     }
     // after the last request
     for t in [65_700, u64::MAX] {
-        calls.extend([Call::Position(t), Call::Table(t, 16), Call::View(t), Call::Keep(t), Call::Units(t)]);
+        calls.extend([
+            Call::Position(t),
+            Call::Table(t, 16),
+            Call::View(t),
+            Call::Keep(t, 0),
+            Call::Units(t),
+        ]);
         calls.extend([Call::NetChange(t, 9, 48, 32), Call::NetChange(9, t, 48, 32)]);
         calls.extend([Call::UnitsBetween(t, 9), Call::UnitsBetween(9, t), Call::UnitsBetween(t, 65_700)]);
     }

@@ -1,7 +1,7 @@
 //! What the calls answer in C, as Rust has it. A refused call has zeros beside the question; anything that no
 //! call may answer stops the program.
 
-use super::c::{YkChange, YkNetChange, YkPosition, YkTable, YkUnits, YkUnitsBetween, YkView};
+use super::c::{YkChange, YkDropMarked, YkNetChange, YkPosition, YkTable, YkUnits, YkUnitsBetween, YkView};
 use crate::outset::{Place, Side};
 use crate::position::Position;
 use crate::store::{Refusal, TableAnswer, View};
@@ -11,7 +11,16 @@ pub fn change(answer: YkChange) -> Result<(), Refusal> {
     match answer {
         YkChange { question: 0, record: 0, .. } => Ok(()),
         YkChange { question: question @ 17, record, .. } => Err(Refusal { question, record: Some(record) }),
-        YkChange { question: question @ 1..=16, record: 0, .. } => refused(question),
+        YkChange { question: question @ (1..=16 | 18), record: 0, .. } => refused(question),
+        other => panic!("{other:?} is no answer"),
+    }
+}
+
+/// The answer without its numbers.
+pub fn drop_marked(answer: YkDropMarked) -> Result<u32, Refusal> {
+    match answer {
+        YkDropMarked { question: 0, gone, .. } => Ok(gone),
+        YkDropMarked { question: question @ (1 | 18), gone: 0, .. } => refused(question),
         other => panic!("{other:?} is no answer"),
     }
 }

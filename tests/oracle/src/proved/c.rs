@@ -13,6 +13,14 @@ pub struct YkChange {
 
 #[repr(C)]
 #[derive(Debug)]
+pub struct YkDropMarked {
+    pub numbers: Numbers,
+    pub question: u8,
+    pub gone: u32,
+}
+
+#[repr(C)]
+#[derive(Debug)]
 pub struct YkPosition {
     pub question: u8,
     pub page: u32,
@@ -181,7 +189,7 @@ extern "C" {
         table: *const u8, table_length: usize,
         entries: *mut Entry, entries_length: usize,
         areas: *mut u8, areas_length: usize,
-        time: u64,
+        time: u64, mark: u32,
     ) -> YkChange;
 
     pub fn yk_drop(
@@ -193,6 +201,16 @@ extern "C" {
         areas: *mut u8, areas_length: usize,
         time: u64,
     ) -> YkChange;
+
+    pub fn yk_drop_marked(
+        numbers: Numbers,
+        log: *const u8, log_length: usize,
+        index: *const u64, index_length: usize,
+        table: *const u8, table_length: usize,
+        entries: *mut Entry, entries_length: usize,
+        areas: *mut u8, areas_length: usize,
+        mark: u32,
+    ) -> YkDropMarked;
 
     pub fn yk_audit(
         numbers: Numbers,

@@ -3,6 +3,7 @@
 use oracle::generate::Log;
 use oracle::limits::{MOST_FILES, ROW_LIMITS};
 use oracle::listing::LENT_INDEX;
+use oracle::mark::MARKS;
 use oracle::random::Random;
 use oracle::store::{Memory, Store};
 use oracle::table::table_length;
@@ -32,11 +33,11 @@ pub fn times(random: &mut Random, log: &Log, many: u64) -> BTreeSet<u64> {
     times
 }
 
-/// Keeps files of some times, in one of ten logs none; their times.
+/// Keeps files of some times, with any marks, in one of ten logs none; their times.
 pub fn keep_some(random: &mut Random, store: &mut Store, log: &Log) -> BTreeSet<u64> {
     let many = random.from(0, MOST_FILES as u64 - 1);
     let mut kept = if random.percent(10) { BTreeSet::new() } else { times(random, log, many) };
     kept.remove(&0);
-    kept.iter().for_each(|&t| store.keep(t).unwrap());
+    kept.iter().for_each(|&t| store.keep(t, random.pick(&MARKS)).unwrap());
     kept
 }
