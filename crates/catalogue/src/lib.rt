@@ -4,8 +4,8 @@
 ghost use mathlib.Core.Path.{_≡_};
 ghost use mathlib.Core.List.{List};
 ghost use mathlib.Core.Bool.{_&&_, cond};
-ghost use Prim.Native.Nat.{ℕ, _-_, _≤_, _<_, min};
-ghost use lib.ListN.{length, take, getD, set, replicate};
+ghost use Prim.Native.Nat.{ℕ, _+_, _-_, _≤_, _<_, min};
+ghost use lib.ListN.{length, take, getD, replicate};
 ghost use lib.Dec.{leb, ltb};
 ghost use Rattle.codec.specs.Parts.{put};
 ghost use Rattle.model.specs.declared.Entry.{Entry};
@@ -14,7 +14,7 @@ ghost use Rattle.model.specs.Marks as marks;
 ghost use Rattle.model.specs.Memory as memory;
 ghost use Rattle.model.specs.Memory.{noEntry};
 ghost use Rattle.catalogue.specs.Files.{Loaded};
-ghost use Rattle.catalogue.specs.Entries.{timeKept, placeOf, withEntries, entryPut, staysWhen, joined, entriesStaying, entriesClosed};
+ghost use Rattle.catalogue.specs.Entries.{timeKept, placeOf, withEntries, entryPut, staysWhen, entriesStaying, entriesClosed};
 ghost use Rattle.catalogue.specs.Places.{heldAt, PlaceWithin};
 use model::Entry;
 use model::Held;
@@ -174,15 +174,6 @@ pub fn no_entry() -> Entry
     }
 }
 
-fn with_entry(c: Catalogue, i: usize, e: Entry) -> Catalogue
-    requires { ⌜ i < 16 ⌝ }
-    ensures { λ r. ⌜ r ≡ withEntries c (set (c .entries) i e) ⌝ }
-{
-    let mut d = c;
-    d.entries[i] = e;
-    d
-}
-
 // Whether a count file of time t is kept.
 pub fn is_kept(c: Catalogue, files: usize, t: u64) -> bool
     requires { ⌜ files ≤ 16 ⌝ }
@@ -226,9 +217,11 @@ pub fn inserted(c: Catalogue, files: usize, at: usize, e: Entry) -> Catalogue
     let mut i = files;
     while at < i {
         i -= 1;
-        d = with_entry(d, i + 1, entry_of(d, i));
+        let moved = entry_of(d, i);
+        d.entries[i + 1] = moved;
     }
-    with_entry(d, at, e)
+    d.entries[at] = e;
+    d
 }
 
 // Whether the file of entry e stays where others go.
@@ -241,17 +234,15 @@ pub fn stays(e: Entry, going: Going) -> bool
     }
 }
 
-fn join(left: Left, e: Entry, going: Going) -> Left
-    requires { ⌜ left .files < 16 ⌝ }
-    ensures { λ r. ⌜ r ≡ joined (staysWhen going) left e ⌝ }
+// The place for the next entry that stays, where e stands at place j.
+fn next_place(e: Entry, going: Going, j: usize) -> usize
+    requires { ⌜ j < 16 ⌝ }
+    ensures { λ r. ⌜ r ≡ cond (staysWhen going e) (j + 1) j ⌝ }
 {
     if stays(e, going) {
-        return Left {
-            catalogue: with_entry(left.catalogue, left.files, e),
-            files: left.files + 1,
-        };
+        return j + 1;
     }
-    left
+    j
 }
 
 // Zero entries from `start` up to `end`.
@@ -260,33 +251,35 @@ fn emptied(c: Catalogue, start: usize, end: usize) -> Catalogue
     requires { ⌜ end ≤ 16 ⌝ }
     ensures { λ r. ⌜ r ≡ withEntries c (put (c .entries) start (replicate (end - start) noEntry)) ⌝ }
 {
+    let none = no_entry();
     let mut d = c;
     let mut k = start;
     while k < end {
-        d = with_entry(d, k, no_entry());
+        d.entries[k] = none;
         k += 1;
     }
     d
 }
 
-// Of the first `files` entries those that stay, closed up, and zero entries behind them.
+// Of the first `files` entries those that stay, closed up, and zero entries behind them. Each is written to the next free place, and
+// written over there if it goes.
 pub fn closed_up(c: Catalogue, files: usize, going: Going) -> Left
     requires { ⌜ files ≤ 16 ⌝ }
     ensures is { λ r. ⌜ r .catalogue ≡ withEntries c (entriesClosed (staysWhen going) files (c .entries)) ⌝ }
     ensures count { λ r. ⌜ r .files ≡ length (entriesStaying (staysWhen going) (take files (c .entries))) ⌝ }
     ensures within { λ r. ⌜ r .files ≤ files ⌝ }
 {
-    let mut left = Left {
-        catalogue: c,
-        files: 0,
-    };
+    let mut d = c;
     let mut i = 0;
+    let mut j = 0;
     while i < files {
-        left = join(left, entry_of(c, i), going);
+        let e = entry_of(c, i);
+        d.entries[j] = e;
+        j = next_place(e, going, j);
         i += 1;
     }
     Left {
-        catalogue: emptied(left.catalogue, left.files, files),
-        files: left.files,
+        catalogue: emptied(d, j, files),
+        files: j,
     }
 }

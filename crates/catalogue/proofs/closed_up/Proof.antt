@@ -1,29 +1,37 @@
--- `catalogue::closed_up` meets its contract. Invariant: of the first i entries those that stay stand in front, and their
--- number is told. Measure: the entries from i on. Assumes nothing.
+-- `catalogue::closed_up` meets its contract. Invariant: of the first i entries those that stay stand in front, j of them, and those
+-- from i on are as they were. Measure: the entries still to be looked at. Assumes nothing.
 use Prim.Native.Nat.{_+_, _-_, _≤_}
-use mathlib.Core.Path.{_≡_, refl, ap, _∙_}
+use mathlib.Core.Path.{_≡_, refl}
 use native.Mathlib.Omega.{arith}
-use Rattle.catalogue.specs.Entries.{staysWhen, entriesStaying, withEntries}
+use lib.ListN.{set, replicate}
+use Rattle.codec.specs.Parts.{put}
+use Rattle.model.specs.Memory.{noEntry}
+use Rattle.catalogue.specs.Entries.{staysWhen, withEntries}
 use Rattle.catalogue.proofs.Sixteen.{sixteen}
-use Rattle.catalogue.proofs.EntryTurns.{leftAfter, left-few, left-turn, closed-is}
+use Rattle.catalogue.proofs.EntryTurns.{left-few, ClosedTo, closed-none, closed-turn, closed-all}
 use Rattle.catalogue.proofs.closed_up.Statement.{statement}
 use Rattle.catalogue.proofs.closed_up.Tie as tie
 
 abbrev Inv-loop : tie.InvT-loop
-Inv-loop c files going left₀ i₀ left i = (i ≤ files) × ((left .files ≤ i) × (left ≡ leftAfter (staysWhen going) c i))
+Inv-loop c files going d₀ i₀ j₀ d i j = ((i ≤ files) × (j ≤ i)) × (ClosedTo (staysWhen going) (c .entries) i (d .entries) j × (d .lent ≡ c .lent))
 
 abbrev μ-loop : tie.MeasureT-loop
-μ-loop c files going left₀ i₀ left i = files - i
+μ-loop c files going d₀ i₀ j₀ d i j = files - i
 
 loop-holds : tie.Need-loop-holds Inv-loop μ-loop
-unfolding entriesStaying
-loop-holds c = (omega arith, (omega arith, refl))
+loop-holds c = ((omega arith, omega arith), (closed-none _ _, refl))
 
 entry-of-requires : tie.Need-entry-of-requires Inv-loop μ-loop
 entry-of-requires c κs = omega arith
 
-join-requires : tie.Need-join-requires Inv-loop μ-loop
-join-requires c κs = omega arith
+mul-e : tie.Need-mul-e Inv-loop μ-loop
+mul-e c = omega arith
+
+element-set-from-e : tie.Need-element-set-from-e Inv-loop μ-loop
+element-set-from-e c = omega arith
+
+next-place-requires : tie.Need-next-place-requires Inv-loop μ-loop
+next-place-requires c κs = omega arith
 
 add-i : tie.Need-add-i Inv-loop μ-loop
 add-i c = omega arith
@@ -37,10 +45,11 @@ loop-again c =
     let start = c .before .before .before .before in
     let a = start .args in
     let es = a .c .entries in
+    let stays = staysWhen (a .going) in
     let long = sixteen (a .c) _ (start .good .0) in
-    let is : c .join .result ≡ leftAfter (staysWhen (a .going)) (a .c) (l .i + 1) =
-    rw (c .join .ensures, c .before .entry-of .ensures, l .inv .1 .1) (left-turn (staysWhen (a .going)) (a .c) (l .i) (omega arith)) in
-    (omega arith, (rw is (left-few (staysWhen (a .going)) es (l .i + 1) (omega arith)), is))
+    let turn : ClosedTo stays es (l .i + 1) (set (l .d .entries) (l .j) (c .before .entry-of .result)) (c .next-place .result) =
+    rw (c .next-place .ensures, c .before .entry-of .ensures) (closed-turn stays es (l .i) (l .inv .1 .0) (omega arith) (omega arith)) in
+    ((omega arith, omega (arith, turn .count, left-few stays es (l .i + 1) (omega arith))), (turn, l .inv .1 .1))
 
 emptied-requires : tie.Need-emptied-requires Inv-loop μ-loop
 emptied-requires c κs = (omega arith, omega arith)
@@ -50,11 +59,13 @@ returns c =
     let l = c .before .before .loop in
     let start = c .before .before .before in
     let a = start .args in
-    let es = a .c .entries in
+    let stays = staysWhen (a .going) in
     let long = sixteen (a .c) _ (start .good .0) in
     let e : l .i ≡ a .files = omega arith in
-    let is : l .left ≡ leftAfter (staysWhen (a .going)) (a .c) (a .files) = l .inv .1 .1 ∙ ap (leftAfter (staysWhen (a .going)) (a .c)) e in
-    (rw (c .emptied .ensures, is) (ap (withEntries (a .c)) (closed-is (staysWhen (a .going)) es (a .files) (omega arith))), (rw is, omega arith))
+    let all : ClosedTo stays (a .c .entries) (a .files) (l .d .entries) (l .j) = rw e at (l .inv .1 .0) in
+    let closed = closed-all stays (a .c .entries) (a .files) all (omega arith) in
+    let is : c .emptied .result ≡ withEntries (l .d) (put (l .d .entries) (l .j) (replicate (a .files - l .j) noEntry)) = c .emptied .ensures in
+    (rw (is, closed, l .inv .1 .1), (all .count, omega arith))
 
 pub closed-up-spec : {M : Type 1} → statement M
 closed-up-spec =
@@ -64,7 +75,9 @@ closed-up-spec =
     μ-loop
     loop-holds
     entry-of-requires
-    join-requires
+    mul-e
+    element-set-from-e
+    next-place-requires
     add-i
     loop-less
     loop-again

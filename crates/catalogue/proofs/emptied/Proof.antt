@@ -14,23 +14,26 @@ use Rattle.catalogue.proofs.emptied.Statement.{statement}
 use Rattle.catalogue.proofs.emptied.Tie as tie
 
 abbrev Inv-loop : tie.InvT-loop
-Inv-loop start end d₀ k₀ d k =
+Inv-loop start end none d₀ k₀ d k =
     ((start ≤ k) × (k ≤ end)) × (d ≡ withEntries d₀ (put (d₀ .entries) start (replicate (k - start) noEntry)))
 
 abbrev μ-loop : tie.MeasureT-loop
-μ-loop start end d₀ k₀ d k = end - k
+μ-loop start end none d₀ k₀ d k = end - k
 
 loop-holds : tie.Need-loop-holds Inv-loop μ-loop
 loop-holds c =
-    let a = c .args in
+    let a = c .before .args in
     let none : a .start - a .start ≡ 0 = omega arith in
     ((omega arith, omega arith), ap (withEntries (a .c)) (sym (ap (λ (n : ℕ). put (a .c .entries) (a .start) (replicate n noEntry)) none ∙ put-nil (a .c .entries) (a .start))))
 
 no-entry-requires : tie.Need-no-entry-requires Inv-loop μ-loop
 no-entry-requires c κs = tt
 
-with-entry-requires : tie.Need-with-entry-requires Inv-loop μ-loop
-with-entry-requires c κs = omega arith
+mul-none : tie.Need-mul-none Inv-loop μ-loop
+mul-none c = omega arith
+
+element-set-from-none : tie.Need-element-set-from-none Inv-loop μ-loop
+element-set-from-none c = omega arith
 
 add-k : tie.Need-add-k Inv-loop μ-loop
 add-k c = omega arith
@@ -40,8 +43,9 @@ loop-less c = omega arith
 
 loop-again : tie.Need-loop-again Inv-loop μ-loop
 loop-again c =
-    let l = c .before .before .before .loop in
-    let start = c .before .before .before .before in
+    let l = c .before .loop in
+    let made = c .before .before in
+    let start = made .before in
     let a = start .args in
     let es = a .c .entries in
     let n = l .k - a .start in
@@ -49,12 +53,12 @@ loop-again c =
     let here : l .k ≡ a .start + n = omega arith in
     let more : n + 1 ≡ l .k + 1 - a .start = omega arith in
     let turned = ap (λ (j : ℕ). set (put es (a .start) (replicate n noEntry)) j noEntry) here ∙ zero-turn es (a .start) n (omega arith) ∙ ap (λ (j : ℕ). put es (a .start) (replicate j noEntry)) more in
-    ((omega arith, omega arith), rw (c .with-entry .ensures, c .before .no-entry .ensures, l .inv .1) (ap (withEntries (a .c)) turned))
+    ((omega arith, omega arith), rw (l .inv .1, made .no-entry .ensures) (ap (withEntries (a .c)) turned))
 
 returns : tie.Need-returns Inv-loop μ-loop
 returns c =
     let l = c .before .loop in
-    let a = c .before .before .args in
+    let a = c .before .before .before .args in
     let e : l .k ≡ a .end = omega arith in
     l .inv .1 ∙ ap (λ (j : ℕ). withEntries (a .c) (put (a .c .entries) (a .start) (replicate (j - a .start) noEntry))) e
 
@@ -64,9 +68,10 @@ emptied-spec =
     (tie.spec
     Inv-loop
     μ-loop
-    loop-holds
     no-entry-requires
-    with-entry-requires
+    loop-holds
+    mul-none
+    element-set-from-none
     add-k
     loop-less
     loop-again

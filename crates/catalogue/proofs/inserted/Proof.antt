@@ -26,42 +26,48 @@ loop-holds c =
 sub-i : tie.Need-sub-i Inv-loop μ-loop
 sub-i c = omega arith
 
-add-with-entry : tie.Need-add-with-entry Inv-loop μ-loop
-add-with-entry c = omega arith
-
 entry-of-requires : tie.Need-entry-of-requires Inv-loop μ-loop
 entry-of-requires c κs = omega arith
 
-with-entry-requires : tie.Need-with-entry-requires Inv-loop μ-loop
-with-entry-requires c κs = omega arith
+add-moved : tie.Need-add-moved Inv-loop μ-loop
+add-moved c = omega arith
+
+mul-moved : tie.Need-mul-moved Inv-loop μ-loop
+mul-moved c = omega arith
+
+element-set-from-moved : tie.Need-element-set-from-moved Inv-loop μ-loop
+element-set-from-moved c = omega arith
 
 loop-less : tie.Need-loop-less Inv-loop μ-loop
 loop-less c = omega arith
 
 loop-again : tie.Need-loop-again Inv-loop μ-loop
 loop-again c =
-    let l = c .before .before .before .loop in
-    let start = c .before .before .before .before in
+    let l = c .before .before .loop in
+    let start = c .before .before .before in
     let a = start .args in
     let long = sixteen (a .c) _ (start .good .0) in (
       (omega arith, omega arith),
-      rw (c .with-entry .ensures, c .before .entry-of .ensures, l .inv .1)
+      rw (c .entry-of .ensures, l .inv .1)
           (ap (withEntries (a .c)) (up-turn (a .c .entries) (l .i) (a .files) (omega arith) (omega arith) (omega arith))),
     )
 
-with-entry-requires-2 : tie.Need-with-entry-requires-2 Inv-loop μ-loop
-with-entry-requires-2 c κs = omega arith
+mul-e : tie.Need-mul-e Inv-loop μ-loop
+mul-e c = omega arith
+
+element-set-from-e : tie.Need-element-set-from-e Inv-loop μ-loop
+element-set-from-e c = omega arith
 
 returns : tie.Need-returns Inv-loop μ-loop
 returns c =
-    let l = c .before .before .loop in
-    let start = c .before .before .before in
+    let l = c .before .loop in
+    let start = c .before .before in
     let a = start .args in
     let es = a .c .entries in
     let long = sixteen (a .c) _ (start .good .0) in
     let same = length-moved-up es (a .at) (a .files) 1 (omega arith) (omega arith) in
     let e : l .i ≡ a .at = omega arith in
-    rw (c .with-entry2 .ensures, l .inv .1, e) (ap (withEntries (a .c)) (sym (put-one (movedUp es (a .at) (a .files) 1) (a .at) (a .e) (omega arith))))
+    rw (l .inv .1, e) (ap (withEntries (a .c)) (sym (put-one (movedUp es (a .at) (a .files) 1) (a .at) (a .e) (omega arith))))
 
 pub inserted-spec : {M : Type 1} → statement M
 inserted-spec =
@@ -71,10 +77,12 @@ inserted-spec =
     μ-loop
     loop-holds
     sub-i
-    add-with-entry
     entry-of-requires
-    with-entry-requires
+    add-moved
+    mul-moved
+    element-set-from-moved
     loop-less
     loop-again
-    with-entry-requires-2
+    mul-e
+    element-set-from-e
     returns)
