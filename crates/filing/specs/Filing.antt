@@ -7,31 +7,24 @@ use mathlib.Core.Bool.{Bool}
 use lib.ListN.{length}
 use Rattle.model.specs.declared.Numbers.{Numbers}
 use Rattle.model.specs.declared.Entry.{Entry}
-use Rattle.model.specs.Answers.{verdictOutcome, dropMarkedOutcome}
+use Rattle.model.specs.Answers.{Outcome}
 use Rattle.model.specs.Memory.{State, state}
-use Rattle.model.specs.Starts.{Result, After}
+use Rattle.model.specs.Starts.{Result}
 use Rattle.model.specs.Files.{filesOf, withFiles, withCount, fileIn, fileAt, reduced}
 use Rattle.model.specs.Audit.{Audited}
 use Rattle.model.specs.Promises.{storeOf, FilesFrame, FilesPromise}
 use Rattle.catalogue.specs.declared.Catalogue.{Catalogue}
 use Rattle.catalogue.specs.declared.Left.{Left}
 use Rattle.catalogue.specs.Files.{byValue, writtenBack}
-use Rattle.filing.specs.declared.Filed.{Filed}
-use Rattle.filing.specs.declared.Cleared.{Cleared}
 
--- a call that may write the first `files` entries and areas, answered r, keeps its promise, `defined` being its definition
-abbrev pub Files : ℕ → Numbers → (log index table : List ℕ) → Catalogue → (areas : List ℕ) → Filed → (areas' : List ℕ) → (State → After) → Type 0
-Files files s log index table c areas r areas' defined =
+-- a call that may write the first `files` entries and areas, answered o and left these numbers, catalogue and areas, keeps its
+-- promise, `defined` being its definition
+abbrev pub Files : {A : Type 0} → ℕ → Numbers → (log index table : List ℕ) → Catalogue → (areas : List ℕ)
+    → Outcome A → Numbers → Catalogue → (areas' : List ℕ) → (State → Result A) → Type 0
+Files files s log index table c areas o s' c' areas' defined =
     (catalogue : List Entry) → c ≡ byValue catalogue
-    → FilesPromise files (storeOf s log index table catalogue areas) (verdictOutcome (r .verdict))
-    (storeOf (r .numbers) log index table (writtenBack catalogue (r .catalogue)) areas') (defined (storeOf s log index table catalogue areas))
-
--- the same of a call that answers how many files went
-abbrev pub MarkedFiles : ℕ → Numbers → (log index table : List ℕ) → Catalogue → (areas : List ℕ) → Cleared → (areas' : List ℕ) → (State → Result ℕ) → Type 0
-MarkedFiles files s log index table c areas r areas' defined =
-    (catalogue : List Entry) → c ≡ byValue catalogue
-    → FilesPromise files (storeOf s log index table catalogue areas) (dropMarkedOutcome (r .answer))
-    (storeOf (r .numbers) log index table (writtenBack catalogue (r .catalogue)) areas') (defined (storeOf s log index table catalogue areas))
+    → FilesPromise files (storeOf s log index table catalogue areas) o (storeOf s' log index table (writtenBack catalogue c') areas')
+    (defined (storeOf s log index table catalogue areas))
 
 -- ---- keep
 

@@ -6,12 +6,13 @@ ghost use Prim.Native.Nat.{_+_, _*_, _≤_, _<_};
 ghost use lib.ListN.{length};
 ghost use Rattle.model.specs.declared.Entry.{Entry};
 ghost use Rattle.model.specs.declared.Verdict.the-variants as verdict;
+ghost use Rattle.model.specs.Answers.{verdictOutcome, dropMarkedOutcome};
 ghost use Rattle.model.specs.Files.{withCount, keepOf, dropOf, dropMarkedOf};
 ghost use Rattle.model.specs.Promises.{storeOf};
 ghost use Rattle.catalogue.specs.Entries.{staysWhen};
 ghost use Rattle.catalogue.specs.Files.{byValue, writtenBack};
 ghost use Rattle.tables.specs.Ways.{Ready};
-ghost use Rattle.filing.specs.Filing.{Files, Keeping, LetGo, MarkedFiles};
+ghost use Rattle.filing.specs.Filing.{Files, Keeping, LetGo};
 use catalogue::Catalogue;
 use catalogue::Going;
 use catalogue::Left;
@@ -111,7 +112,8 @@ pub fn keep(
     t: u64,
     mark: u32,
 ) -> Filed
-    ensures { λ r. ⌜ Files (s .files + 1) s (now (log .entry)) (now (index .entry)) (now (current .entry)) c (now (areas .entry)) r (now (areas .exit)) (λ st. keepOf st t mark) ⌝ }
+    ensures { λ r. ⌜ Files (s .files + 1) s (now (log .entry)) (now (index .entry)) (now (current .entry)) c (now (areas .entry))
+        (verdictOutcome (r .verdict)) (r .numbers) (r .catalogue) (now (areas .exit)) (λ st. keepOf st t mark) ⌝ }
 {
     if limits::is_sound(s, log, index.len(), current.len(), c.lent, areas.len()) {} else {
         return refused(s, c, Refusal::Header);
@@ -163,7 +165,8 @@ pub fn drop(
     areas: &mut [u8],
     t: u64,
 ) -> Filed
-    ensures { λ r. ⌜ Files (s .files) s (now (log .entry)) (now (index .entry)) (now (current .entry)) c (now (areas .entry)) r (now (areas .exit)) (λ st. dropOf st t) ⌝ }
+    ensures { λ r. ⌜ Files (s .files) s (now (log .entry)) (now (index .entry)) (now (current .entry)) c (now (areas .entry))
+        (verdictOutcome (r .verdict)) (r .numbers) (r .catalogue) (now (areas .exit)) (λ st. dropOf st t) ⌝ }
 {
     if limits::is_sound(s, log, index.len(), current.len(), c.lent, areas.len()) {} else {
         return refused(s, c, Refusal::Header);
@@ -191,7 +194,8 @@ pub fn drop_marked(
     areas: &mut [u8],
     mark: u32,
 ) -> Cleared
-    ensures { λ r. ⌜ MarkedFiles (s .files) s (now (log .entry)) (now (index .entry)) (now (current .entry)) c (now (areas .entry)) r (now (areas .exit)) (λ st. dropMarkedOf st mark) ⌝ }
+    ensures { λ r. ⌜ Files (s .files) s (now (log .entry)) (now (index .entry)) (now (current .entry)) c (now (areas .entry))
+        (dropMarkedOutcome (r .answer)) (r .numbers) (r .catalogue) (now (areas .exit)) (λ st. dropMarkedOf st mark) ⌝ }
 {
     if limits::is_sound(s, log, index.len(), current.len(), c.lent, areas.len()) {} else {
         return Cleared {

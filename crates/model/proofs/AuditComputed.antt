@@ -4,7 +4,6 @@ use mathlib.Core.Path.{_≡_, refl}
 use mathlib.Core.List.{[], _∷_, map}
 use mathlib.Core.Bool.{true, false}
 use lib.ListN.{replicate}
-use Rattle.model.specs.declared.Entry.{Entry}
 use Rattle.model.specs.Memory.{State}
 use Rattle.model.specs.Audit.{auditOf}
 use Rattle.model.proofs.FileComputed.{marking, file, with, four, friday, sunday, full}

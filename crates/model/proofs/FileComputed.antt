@@ -7,15 +7,14 @@ use lib.ListN.{replicate}
 use Rattle.codec.specs.Parts.{zeros}
 use Rattle.model.specs.declared.Numbers.{Numbers}
 use Rattle.model.specs.declared.Entry.{Entry}
-use Rattle.model.specs.declared.Place.{Place}
 use Rattle.model.specs.declared.Place.the-variants.{Area}
-use Rattle.model.specs.Answers.{Outcome, answers, refuses}
+use Rattle.model.specs.Answers.{answers, refuses}
 use Rattle.model.specs.Records.{insertion, deletion, recordsBytes, headerBytes}
 use Rattle.model.specs.Shape.{leafWords}
 use Rattle.model.specs.Tree.{allotted, treeOf, withNodes, withTree}
 use Rattle.model.specs.Memory.{State, state, noEntry}
 use Rattle.model.specs.Outset.{outsetFor}
-use Rattle.model.specs.Starts.{Result, After, after}
+use Rattle.model.specs.Starts.{after}
 use Rattle.model.specs.Files.{filesOf, keepOf, staying, dropOf, dropMarkedOf}
 use Rattle.model.specs.Promises.{isRefused}
 use Rattle.model.specs.Demands.{marksAt, otherMarks, heldNext, heldAfter}

@@ -1,5 +1,4 @@
 -- Answers in numbers, computed: in each all fields differ, so that no two can be exchanged. Assumes nothing.
-use Prim.Native.Nat.{ℕ}
 use mathlib.Core.Path.{_≡_, refl}
 use mathlib.Core.List.{List, [], _∷_, map}
 use lib.IntN.{pos, negsuc}
@@ -19,12 +18,6 @@ use Rattle.model.specs.declared.DropMarkedAnswer.the-variants as marked
 use Rattle.lending.specs.declared.LengthsAnswer.the-variants as lengths
 use Rattle.model.specs.Answers.{refusal}
 use Rattle.answers.specs.Question.{questionOf, recordIn, numberOf}
-use Rattle.numbered.specs.declared.answer.YkChange.{YkChange}
-use Rattle.numbered.specs.declared.answer.YkPosition.{YkPosition}
-use Rattle.numbered.specs.declared.answer.YkTable.{YkTable}
-use Rattle.numbered.specs.declared.outset.YkView.{YkView}
-use Rattle.numbered.specs.declared.answer.YkNetChange.{YkNetChange}
-use Rattle.numbered.specs.declared.needed.YkLengths.{YkLengths}
 use Rattle.numbered.specs.Answers.{changeOut, dropMarkedOut, positionOut, laterOf, tableOut, placeOut, areaOut, spanOf, viewOut, netChangeOut, unitsOut, differenceOut, lengthsOut}
 
 -- every refusal's number, as 01 numbers its questions

@@ -6,23 +6,6 @@ use Rattle.store.proofs.Makings.{written-same, lent-same}
 use borrow.Author.Needs.{needs}
 use Rattle.store.proofs.make.Statement.{statement}
 use Rattle.store.proofs.make.Tie as tie
-use Rattle.appending.proofs.delete.Reads as delete-reads
-use Rattle.appending.proofs.insert.Reads as insert-reads
-use Rattle.appending.proofs.update.Reads as update-reads
-use Rattle.auditing.proofs.audit.Reads as audit-reads
-use Rattle.comparing.proofs.net_change.Reads as net-change-reads
-use Rattle.filing.proofs.drop.Reads as drop-reads
-use Rattle.filing.proofs.drop_marked.Reads as drop-marked-reads
-use Rattle.filing.proofs.keep.Reads as keep-reads
-use Rattle.store.proofs.answered.Reads as answered-reads
-use Rattle.store.proofs.appended.Reads as appended-reads
-use Rattle.store.proofs.cleared.Reads as cleared-reads
-use Rattle.store.proofs.filed.Reads as filed-reads
-use Rattle.tables.proofs.position.Reads as position-reads
-use Rattle.tables.proofs.table.Reads as table-reads
-use Rattle.tables.proofs.view.Reads as view-reads
-use Rattle.units.proofs.at.Reads as at-reads
-use Rattle.units.proofs.between.Reads as between-reads
 
 enum-known-call : tie.Need-enum-known-call
 enum-known-call c = search needs
