@@ -26,14 +26,14 @@ use Rattle.model.specs.Promises.{storeOf}
 use Rattle.model.specs.Calls.{Start, begun, StartFits, CallFits, Accepted, Reachable}
 use Rattle.model.specs.Demands.{HoldsLog, AuditExact}
 use Rattle.model.specs.Facts.{AuditedFacts, InOrder}
-use Rattle.model.proofs.AuditLaws.{audited-facts, audited-sound, capacity-entries}
+use Rattle.model.proofs.AuditLaws.{audited-facts, audited-sound, capacity-entries, areas-within}
 use Rattle.model.proofs.FileLaws.{entries-files-in}
 use Rattle.model.proofs.MarkLaws.{mark-small}
 use Rattle.claims.proofs.Regions.{answered, none-asked, length-emptied}
 use Rattle.claims.proofs.Opened.{open-state}
 use Rattle.claims.proofs.SecondDemands.{reads, same-log, opens-alike}
 use Rattle.claims.proofs.FileFronts.{front-files, front-areas, NextFile, next-file}
-use Rattle.claims.proofs.Kept.{areas-within, length-files}
+use Rattle.claims.proofs.Kept.{length-files}
 use Rattle.claims.proofs.Lists.{reachable-in-order}
 
 -- stores are equal where their numbers and regions are

@@ -8,17 +8,18 @@ use native.Mathlib.Omega.{arith}
 use lib.Dec.{ltb, eqb}
 use borrow.Author.Tests.{ltb-true, eqb-true, eqb-false, ne-eqb}
 use Rattle.model.specs.Answers.{firstNo}
-use Rattle.model.specs.Records.{Rec}
 use Rattle.model.specs.Memory.{State}
-use Rattle.model.specs.Changes.{insertQuestions, presentQuestions, appended, insertOf, deleteOf, updateOf}
 use Rattle.model.specs.Files.{File, filesIn, filesOf, isKept, keepQuestions, fileIn, fileAt, keepOf, staying, notOf, dropQuestions, dropOf, notMarked, dropMarkedQuestions, dropMarkedOf}
 use Rattle.model.specs.Promises.{isRefused}
 use Rattle.model.specs.Facts.{InOrder}
 use Rattle.model.specs.Calls.{begun, Call, AllFit, step, run}
 use Rattle.model.specs.Demands.{left, marksAt, otherMarks, heldNext, heldAfter, some, HeldSinceKept}
 use Rattle.model.proofs.Compare.{lt-eqb}
+use Rattle.model.proofs.AuditLaws.{audited-sound}
+use Rattle.model.proofs.RemovalLaws.{left-files}
+use Rattle.claims.proofs.Untouched.{files-alike, insert-untouched, delete-untouched, update-untouched}
 use Rattle.claims.proofs.Opened.{start-audited, start-files}
-use Rattle.claims.proofs.Kept.{keep-asked, kept-files, reduced-files}
+use Rattle.claims.proofs.Kept.{keep-asked, kept-files}
 use Rattle.claims.proofs.Lists.{step-in-order}
 
 -- ---- lists of files
@@ -96,35 +97,6 @@ accepted true = refl
 accepted false = refl
 
 module _ (st : State) where
-  -- records appended touch no file
-  pub appended-files : (t : ℕ) (new : List Rec) → filesOf (appended st t new) ≡ filesOf st
-  unfolding appended
-  appended-files t new = refl
-
-  pub insert-files : (t a c : ℕ) → filesOf (insertOf st t a c .state) ≡ filesOf st
-  unfolding insertOf
-  insert-files t a c = by (firstNo (insertQuestions st t a)) refl
-    where
-      by : (k : ℕ) → firstNo (insertQuestions st t a) ≡ k → filesOf (insertOf st t a c .state) ≡ filesOf st
-      by zero q = rw q (appended-files t _)
-      by (suc k) q = rw q
-
-  pub delete-files : (t a : ℕ) → filesOf (deleteOf st t a .state) ≡ filesOf st
-  unfolding deleteOf
-  delete-files t a = by (firstNo (presentQuestions st t a 1)) refl
-    where
-      by : (k : ℕ) → firstNo (presentQuestions st t a 1) ≡ k → filesOf (deleteOf st t a .state) ≡ filesOf st
-      by zero q = rw q (appended-files t _)
-      by (suc k) q = rw q
-
-  pub update-files : (t a c : ℕ) → filesOf (updateOf st t a c .state) ≡ filesOf st
-  unfolding updateOf
-  update-files t a c = by (firstNo (presentQuestions st t a 2)) refl
-    where
-      by : (k : ℕ) → firstNo (presentQuestions st t a 2) ≡ k → filesOf (updateOf st t a c .state) ≡ filesOf st
-      by zero q = rw q (appended-files t _)
-      by (suc k) q = rw q
-
   module _ (o : InOrder st) (t : ℕ) where
     abbrev marks : List ℕ
     marks = marksAt t (filesOf st)
@@ -149,7 +121,7 @@ module _ (st : State) where
             → marksAt t (filesOf (dropOf st u .state)) ≡ cond (eqb u t && not (isRefused (dropOf st u .outcome))) [] marks
         by zero q =
             rw q
-            (ap (marksAt t) (reduced-files (notOf u) st o) ∙ marks-without t u (filesOf st)
+            (ap (marksAt t) (left-files st (audited-sound st (o .audited)) (notOf u)) ∙ marks-without t u (filesOf st)
             ∙ ap (λ (b : Bool). cond b [] marks) (accepted (eqb u t)))
         by (suc n) q = rw q (refused (eqb u t) [] marks)
 
@@ -159,14 +131,14 @@ module _ (st : State) where
       where
         by : (n : ℕ) → firstNo (dropMarkedQuestions st k) ≡ n
             → marksAt t (filesOf (dropMarkedOf st k .state)) ≡ cond (isRefused (dropMarkedOf st k .outcome)) marks (otherMarks k marks)
-        by zero q = rw q (ap (marksAt t) (reduced-files (notMarked k) st o) ∙ marks-other t k (filesOf st))
+        by zero q = rw q (ap (marksAt t) (left-files st (audited-sound st (o .audited)) (notMarked k)) ∙ marks-other t k (filesOf st))
         by (suc n) q = rw q
 
     pub step-marks : (c : Call) → marksAt t (filesOf (step st c)) ≡ heldNext t (marksAt t (filesOf st)) st c
     unfolding step heldNext
-    step-marks (Call.insert u a c) = ap (marksAt t) (insert-files u a c)
-    step-marks (Call.delete u a) = ap (marksAt t) (delete-files u a)
-    step-marks (Call.update u a c) = ap (marksAt t) (update-files u a c)
+    step-marks (Call.insert u a c) = ap (marksAt t) (files-alike (insert-untouched st u a c))
+    step-marks (Call.delete u a) = ap (marksAt t) (files-alike (delete-untouched st u a))
+    step-marks (Call.update u a c) = ap (marksAt t) (files-alike (update-untouched st u a c))
     step-marks (Call.position u) = refl
     step-marks (Call.table u out) = refl
     step-marks (Call.view u) = refl

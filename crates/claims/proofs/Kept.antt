@@ -4,9 +4,8 @@ use mathlib.Core.Path.{_≡_, refl, _∙_}
 use mathlib.Core.List.{List, [], _∷_, _++_, append-nil, map}
 use mathlib.Core.Bool.{Bool, true, false, not, _&&_}
 use native.Mathlib.Omega.{arith}
-use native.Mathlib.Nat.{min-le-left, le-trans, le-div-iff-mul-le, mul-comm, mul-le-mul-right}
-use lib.ListN.{length, take, replicate, length-append, length-map, length-replicate}
-use lib.Seq.{length-take-le}
+use native.Mathlib.Nat.{min-le-left, le-trans, mul-comm, mul-le-mul-right}
+use lib.ListN.{length, replicate, length-append, length-map, length-replicate}
 use lib.Dec.{leb, ltb, eqb}
 use borrow.Author.Tests.{leb-true, ltb-true, eqb-false, not-true}
 use Rattle.codec.proofs.Numbers.{are-bytes-put}
@@ -19,29 +18,23 @@ use Rattle.model.specs.Memory.{State, state, logOf, sound, capacity, capacityOf
 use Rattle.model.specs.Files.{File, filesOf, noFile, areasBytes, entryOf, withFiles, withCount, isKept, keepQuestions, fileIn, fileAt, keepOf, staying, reduced, notOf, dropQuestions, dropOf, notMarked, dropMarkedQuestions, dropMarkedOf}
 use Rattle.model.proofs.Compare.{and-left, and-right}
 use Rattle.model.specs.Facts.{FileIs, FilesAre, AuditedFacts, InOrder}
-use Rattle.model.proofs.AuditLaws.{audited-facts, audited-of-facts, capacity-entries, capacity-areas}
-use Rattle.model.proofs.FileLaws.{length-files-in, length-staying}
+use Rattle.model.proofs.AuditLaws.{audited-facts, audited-of-facts, capacity-entries, areas-within}
+use Rattle.model.proofs.FileLaws.{length-files-of, length-whole, length-staying}
+use Rattle.model.proofs.FilesBack.{files-back}
 use Rattle.claims.proofs.Regions.{SameLengths, asked, entries-put, entries-of-lendable}
 use Rattle.claims.proofs.Leaving.{either-left}
-use Rattle.claims.proofs.FileLists.{FilesFit, files-fit, files-fit-append, no-files-fit, entries-of-files, bytes-of-files, length-areas, files-back}
+use Rattle.claims.proofs.FileLists.{FilesFit, files-fit, files-fit-append, no-files-fit, entries-of-files, bytes-of-files, whole-of-fit}
 use Rattle.claims.proofs.FilesKept.{length-file-in, files-with, files-staying, rest-back}
 
 pub capacity-few : (R entries bytes : ℕ) → capacity R entries bytes ≤ 16
 unfolding capacity
 capacity-few R entries bytes = min-le-left 16 _
 
--- whole areas of the capacity lie within the areas lent
-pub areas-within : (R entries bytes : ℕ) → 1 ≤ R → 8 * R * capacity R entries bytes ≤ bytes
-areas-within R entries bytes some =
-    rw (mul-comm (8 * R) (capacity R entries bytes))
-    (le-div-iff-mul-le {k = 8 * R} {x = capacity R entries bytes} {y = bytes} (omega arith) .0 (capacity-areas R entries bytes))
-
 -- a state holds as many files as its number says
 pub length-files : (st : State) → AuditedFacts st → length (filesOf st) ≡ st .numbers .files
 length-files st f =
     let m = st .memory in
-    length-files-in (st .numbers .limit) (m .areas) 0 (take (st .numbers .files) (m .catalogue))
-    ∙ length-take-le (st .numbers .files) (m .catalogue) (le-trans (f .limits .files-few) (capacity-entries (st .numbers .limit) (length (m .catalogue)) (length (m .areas))))
+    length-files-of st (le-trans (f .limits .files-few) (capacity-entries (st .numbers .limit) (length (m .catalogue)) (length (m .areas))))
 
 -- ---- other files, and no files behind them, in place of those that were there
 
@@ -81,7 +74,7 @@ module _ (st : State) (o : InOrder st) (gs : List File) (j : ℕ)
       let within : 8 * R * slots ≤ length (st .memory .areas) = areas-within R (length (st .memory .catalogue)) (length (st .memory .areas)) (facts .limits .limit-low) in
       let more : length all * (8 * R) ≤ slots * (8 * R) = mul-le-mul-right (8 * R) fit in
       length-put (st .memory .areas) 0 (areasBytes all)
-      (omega (arith, length-areas R all all-fit, mul-comm (8 * R) (length all), mul-comm (8 * R) slots))
+      (omega (arith, length-whole R all (whole-of-fit R all all-fit), mul-comm (8 * R) (length all), mul-comm (8 * R) slots))
 
   pub files-lengths : SameLengths (st .memory) (other .memory)
   files-lengths = record { log-same = refl; index-same = refl; table-same = refl; entries-same = entries-long; areas-same = areas-long }
@@ -90,7 +83,7 @@ module _ (st : State) (o : InOrder st) (gs : List File) (j : ℕ)
   slots-same = rw (entries-long, areas-long)
 
   pub files-now : filesOf other ≡ gs
-  files-now = files-back R gs (replicate j (noFile R)) (st .memory .catalogue) (st .memory .areas) gs-fit
+  files-now = files-back R gs (replicate j (noFile R)) (st .memory .catalogue) (st .memory .areas) (whole-of-fit R gs gs-fit)
 
   other-facts : AuditedFacts other
   unfolding headerBytes
@@ -235,10 +228,6 @@ module _ (stays : Entry → Bool) (st : State) (o : InOrder st) where
   pub reduced-in-order : InOrder (reduced stays st)
   reduced-in-order =
       files-in-order st o rest (st .numbers .files - length rest) rest-are (omega (arith, no-more)) (omega (arith, no-more, facts-now .limits .files-few))
-
-  pub reduced-files : filesOf (reduced stays st) ≡ rest
-  reduced-files =
-      files-now st o rest (st .numbers .files - length rest) rest-are (omega (arith, no-more)) (omega (arith, no-more, facts-now .limits .files-few))
 
   pub reduced-lengths : SameLengths (st .memory) (reduced stays st .memory)
   reduced-lengths =

@@ -4,6 +4,7 @@ pub mod Regions
 pub mod Started
 pub mod Opened
 pub mod Leaving
+pub mod Untouched
 pub mod Appended
 pub mod Changed
 pub mod SecondDemands
@@ -22,3 +23,5 @@ pub mod ThirdDemands
 pub mod Positions
 pub mod Units
 pub mod Made
+pub mod KeepingMore
+pub mod Deletions

@@ -16,7 +16,7 @@ use Rattle.model.proofs.AuditLaws.{audited-facts}
 use Rattle.model.proofs.ChoiceLaws.{Choice, choice}
 use Rattle.model.proofs.BetweenLaws.{requests-rise, counts-between}
 use Rattle.model.proofs.LateLaws.{answered-le, between-as-asked}
-use Rattle.catalogue.proofs.Nearest.{nearest, chosen-held, chosen-between, chosen-later}
+use Rattle.model.proofs.NearestLaws.{nearest, chosen-held, chosen-between, chosen-later}
 use Rattle.claims.proofs.SecondDemands.{table-answered}
 
 module _ (st : State) (t : ℕ) where

@@ -31,6 +31,9 @@ module _ (st other : State) (o : InOrder st) (o′ : InOrder other) (one : OneLo
   pub same-limit : st .numbers .limit ≡ other .numbers .limit
   same-limit = sym (reads .limit-is) ∙ reads-other .limit-is
 
+  pub same-last : st .numbers .last ≡ other .numbers .last
+  same-last = sym (reads .last-is) ∙ reads-other .last-is
+
   pub same-records : logOf st ≡ logOf other
   same-records =
       let n = st .numbers .records in

@@ -13,7 +13,7 @@ use Rattle.model.specs.declared.Entry.{Entry}
 use Rattle.model.specs.Memory.{State}
 use Rattle.model.specs.Files.{File, filesOf, areasBytes, entryOf, withCount, staying, closedUp, reduced}
 use Rattle.model.specs.Promises.{storeOf, FilesFrame}
-use Rattle.model.proofs.FileLaws.{length-files-in, Whole, whole-files-in, whole-staying, whole-closed-up, length-staying, length-closed-up, files-frame}
+use Rattle.model.proofs.FileLaws.{length-files-of, Whole, whole-files-in, whole-staying, whole-closed-up, length-staying, length-closed-up, files-frame}
 use Rattle.catalogue.specs.declared.Catalogue.{Catalogue}
 use Rattle.catalogue.specs.declared.Left.{Left}
 use Rattle.catalogue.specs.Files.{byValue, writtenBack}
@@ -43,7 +43,7 @@ module _ (stays : Entry → Bool) (s : Numbers) (log index table : List ℕ) (ca
 
   -- as many files as the numbers say
   pub all-files : length (filesOf st) ≡ s .files
-  all-files = length-files-in R areas 0 es ∙ long
+  all-files = length-files-of st few
 
   stay-few : length stay ≤ s .files
   stay-few = omega (arith, length-staying stays (filesOf st), all-files)

@@ -1,4 +1,4 @@
--- The audit of marks (02, wish 3), computed on the store of FileComputed. Assumes nothing.
+-- The audit of marks (02, wish 3), computed on the stores of FileStores. Assumes nothing.
 use Prim.Native.Nat.{ℕ}
 use mathlib.Core.Path.{_≡_, refl}
 use mathlib.Core.List.{[], _∷_, map}
@@ -6,7 +6,8 @@ use mathlib.Core.Bool.{true, false}
 use lib.ListN.{replicate}
 use Rattle.model.specs.Memory.{State}
 use Rattle.model.specs.Audit.{auditOf}
-use Rattle.model.proofs.FileComputed.{marking, file, with, four, friday, sunday, full}
+use Rattle.model.proofs.FileStores.{marking, file, with, four, friday, sunday}
+use Rattle.model.proofs.FileComputed.{full}
 
 -- the marks of the first file and of the free entry
 abbrev strange : ℕ → ℕ → State

@@ -37,6 +37,12 @@ pub capacity-areas : (R entries bytes : ℕ) → capacity R entries bytes ≤ by
 unfolding capacity
 capacity-areas R entries bytes = le-trans (min-le-right 16 _) (min-le-right entries _)
 
+-- whole areas of the capacity lie within the areas lent
+pub areas-within : (R entries bytes : ℕ) → 1 ≤ R → 8 * R * capacity R entries bytes ≤ bytes
+areas-within R entries bytes some =
+    rw (mul-comm (8 * R) (capacity R entries bytes))
+    (le-div-iff-mul-le {k = 8 * R} {x = capacity R entries bytes} {y = bytes} (omega arith) .0 (capacity-areas R entries bytes))
+
 -- the capacity is the most files that the three bounds let be, the last by a product in place of the division
 pub within-capacity : (R entries bytes k : ℕ) → 1 ≤ R → k ≤ 16 → k ≤ entries → 8 * R * k ≤ bytes → k ≤ capacity R entries bytes
 unfolding capacity

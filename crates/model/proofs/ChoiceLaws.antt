@@ -2,7 +2,7 @@
 -- tells the two cases apart, so that a law of the choice looks at no test. Assumes nothing.
 use Prim.Native.Nat.{ℕ, _≤_, _<_}
 use mathlib.Core.Path.{_≡_, refl}
-use mathlib.Core.List.{List, [], _∷_, _++_}
+use mathlib.Core.List.{List, [], _∷_, _++_, map}
 use mathlib.Core.Bool.{Bool, true, false, cond}
 use lib.ListN.{length, replicate}
 use lib.Dec.{ltb}
@@ -48,6 +48,14 @@ fewer-later = refl
 tie-earlier : outsetFor (with (kept 20 2 ∷ [])) 45 ≡ record { outset = file 0 20 2; side = Earlier; between = 3 }
 unfolding number bytes recordBytes recordsBytes recordIn records upTo pageTimesFrom keysUpTo filesFrom latest earliest chooseBy
 tie-earlier = refl
+
+-- "a store holding a larger set of count files reports no more requests between" (wish 9): each of these holds all times of the one
+-- before it. 20 and then 40 are nearer to some times, 10 to 15 alone, 50 to 55 alone
+more-files : map (λ (files : List Entry). map (λ (t : ℕ). outsetFor (with files) t .between) (15 ∷ 25 ∷ 30 ∷ 45 ∷ 55 ∷ []))
+    ([] ∷ (kept 20 2 ∷ []) ∷ (kept 20 2 ∷ kept 40 1 ∷ []) ∷ (kept 10 1 ∷ kept 20 2 ∷ kept 40 1 ∷ []) ∷ (kept 10 1 ∷ kept 20 2 ∷ kept 40 1 ∷ kept 50 2 ∷ []) ∷ [])
+    ≡ (1 ∷ 2 ∷ 4 ∷ 3 ∷ 2 ∷ []) ∷ (1 ∷ 0 ∷ 2 ∷ 3 ∷ 2 ∷ []) ∷ (1 ∷ 0 ∷ 1 ∷ 0 ∷ 1 ∷ []) ∷ (0 ∷ 0 ∷ 1 ∷ 0 ∷ 1 ∷ []) ∷ (0 ∷ 0 ∷ 1 ∷ 0 ∷ 0 ∷ []) ∷ []
+unfolding number bytes recordBytes recordsBytes recordIn records upTo pageTimesFrom keysUpTo filesFrom latest earliest chooseBy
+more-files = refl
 
 -- ---- the two cases
 

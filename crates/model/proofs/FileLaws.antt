@@ -6,14 +6,14 @@ use mathlib.Core.List.{List, [], _∷_, _++_, append-assoc, map}
 use mathlib.Core.Bool.{Bool, true, false, not, cond}
 use native.Mathlib.Omega.{arith}
 use native.Mathlib.Nat.{add-zero}
-use lib.ListN.{length, drop, replicate, length-append, length-replicate, length-map, replicate-append-replicate}
-use lib.Seq.{take-add, drop-drop}
+use lib.ListN.{length, take, drop, replicate, length-append, length-replicate, length-map, replicate-append-replicate}
+use lib.Seq.{take-add, drop-drop, length-take-le}
 use Rattle.codec.specs.Parts.{zeros, put, part}
 use Rattle.codec.proofs.PartLaws.{length-part, length-put, drop-put}
 use Rattle.model.specs.declared.Entry.{Entry}
 use Rattle.model.specs.declared.Numbers.{Numbers}
 use Rattle.model.specs.Memory.{State, state}
-use Rattle.model.specs.Files.{File, filesIn, noFile, areasBytes, entryOf, staying, closedUp, withFiles}
+use Rattle.model.specs.Files.{File, filesIn, filesOf, noFile, areasBytes, entryOf, staying, closedUp, withFiles}
 use Rattle.model.specs.Promises.{Beyond, FilesFrame}
 
 -- ---- entries and areas of files one behind the other
@@ -66,6 +66,12 @@ module _ (R : ℕ) (areas : List ℕ) where
       let next : 8 * R * suc i ≡ 8 * R * i + 8 * R = omega arith in
       let long : 8 * R * suc (length es) ≡ 8 * R + 8 * R * length es = omega arith in
       rw (areas-files-in (suc i) es, next, long, take-add (8 * R) (8 * R * length es) (drop (8 * R * i) areas), drop-drop (8 * R) (8 * R * i) areas)
+
+-- a state holds as many files as its number says
+pub length-files-of : (st : State) → st .numbers .files ≤ length (st .memory .catalogue) → length (filesOf st) ≡ st .numbers .files
+length-files-of st few =
+    let m = st .memory in
+    length-files-in (st .numbers .limit) (m .areas) 0 (take (st .numbers .files) (m .catalogue)) ∙ length-take-le (st .numbers .files) (m .catalogue) few
 
 -- ---- whole areas
 

@@ -15,12 +15,16 @@ pub mod PageCounts
 pub mod PageLaws
 pub mod PositionLaws
 pub mod ChoiceLaws
+pub mod NearestLaws
 pub mod BetweenLaws
+pub mod MoreFileLaws
 pub mod PromiseLaws
 pub mod AppendLaws
 pub mod RecordLaws
 pub mod FirstWrongLaws
 pub mod LateComputed
+pub mod FileStores
+pub mod DeletionComputed
 pub mod FileComputed
 pub mod AuditComputed
 pub mod AuditLaws
@@ -30,3 +34,7 @@ pub mod MarkLaws
 pub mod LateLaws
 pub mod LateKeeps
 pub mod FileLaws
+pub mod FilesBack
+pub mod RemovalLaws
+pub mod RemovalLists
+pub mod HeldTimes

@@ -27,6 +27,8 @@ pub mod Chains
 pub mod Demands
 pub mod LateTimes
 pub mod OtherMarks
+pub mod MoreFiles
+pub mod Deletions
 pub mod Shape
 pub mod Numbering
 pub mod Tree

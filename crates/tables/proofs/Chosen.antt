@@ -34,7 +34,7 @@ use Rattle.tree.proofs.Written.{with-packed}
 use Rattle.rows.proofs.TableBytes.{table-bytes-rows}
 use Rattle.catalogue.specs.declared.Catalogue.{Catalogue}
 use Rattle.catalogue.specs.Files.{Loaded}
-use Rattle.catalogue.proofs.Nearest.{latest-before, earliest-after, chosen-held}
+use Rattle.model.proofs.NearestLaws.{latest-before, earliest-after, chosen-held}
 use Rattle.pages.specs.Paged.{PositionIs}
 use Rattle.outsets.specs.Used.{Describes}
 use Rattle.tables.specs.Ways.{OnSide}

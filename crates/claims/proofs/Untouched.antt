@@ -1,0 +1,34 @@
+-- Insert, delete and update touch no count file: catalogue and areas stay as they were. Assumes nothing.
+use Prim.Native.Nat.{ℕ}
+use mathlib.Core.Path.{_≡_, refl}
+use mathlib.Core.List.{List}
+use Rattle.model.specs.Answers.{firstNo}
+use Rattle.model.specs.Records.{Rec}
+use Rattle.model.specs.Memory.{State}
+use Rattle.model.specs.Changes.{insertQuestions, presentQuestions, appended, insertOf, deleteOf, updateOf}
+use Rattle.model.specs.Files.{filesOf}
+use Rattle.model.specs.Deletions.{SameFiles}
+use Rattle.claims.proofs.Leaving.{either-left}
+
+pub files-alike : {x y : State} → SameFiles x y → filesOf x ≡ filesOf y
+files-alike s = rw (s .same-limit, s .same-count, s .same-catalogue, s .same-areas)
+
+pub same-files : (st : State) → SameFiles st st
+same-files st = record { same-limit = refl; same-count = refl; same-catalogue = refl; same-areas = refl }
+
+appended-untouched : (st : State) (t : ℕ) (new : List Rec) → SameFiles (appended st t new) st
+unfolding appended
+appended-untouched st t new = record { same-limit = refl; same-count = refl; same-catalogue = refl; same-areas = refl }
+
+module _ (st : State) where
+  pub insert-untouched : (t a c : ℕ) → SameFiles (insertOf st t a c .state) st
+  unfolding insertOf
+  insert-untouched t a c = either-left (λ x. SameFiles x st) tt (firstNo (insertQuestions st t a)) st _ (same-files st) (λ q. appended-untouched st t _)
+
+  pub delete-untouched : (t a : ℕ) → SameFiles (deleteOf st t a .state) st
+  unfolding deleteOf
+  delete-untouched t a = either-left (λ x. SameFiles x st) tt (firstNo (presentQuestions st t a 1)) st _ (same-files st) (λ q. appended-untouched st t _)
+
+  pub update-untouched : (t a c : ℕ) → SameFiles (updateOf st t a c .state) st
+  unfolding updateOf
+  update-untouched t a c = either-left (λ x. SameFiles x st) tt (firstNo (presentQuestions st t a 2)) st _ (same-files st) (λ q. appended-untouched st t _)
