@@ -3,7 +3,7 @@
 -- Assumes nothing.
 use Prim.Native.Nat.{ℕ}
 use mathlib.Core.Path.{_≡_, refl, sym, ap, _∙_}
-use mathlib.Core.Logic.{_↔_, _⊎_, inl, inr}
+use mathlib.Core.Logic.{_⊎_, inl, inr}
 use mathlib.Core.List.{List, [], _∷_, List·Memᴰ, List·Memᴰ·head, List·Memᴰ·tail, List·Memᴰ·not-nil, List·Memᴰ·cases-cons}
 use mathlib.Core.Bool.{Bool, true, false, not}
 use lib.ListN.{length}
@@ -14,7 +14,7 @@ use Rattle.model.specs.Facts.{InOrder}
 use Rattle.model.specs.Calls.{Call, AllFit, step, run}
 use Rattle.model.specs.LateTimes.{IsKeep}
 use Rattle.model.specs.Demands.{left}
-use Rattle.model.specs.Deletions.{IsDeletion, IsNoKeep, Each, letsGo, spared, SameHeld, SameFiles, OrderIsFree, OrderOfDeletions, CodeOrderOfDeletions}
+use Rattle.model.specs.Deletions.{IsDeletion, IsNoKeep, Each, letsGo, spared, SameCalls, SameHeld, SameFiles, LeftBy, OrderIsFree, OrderOfDeletions, CodeOrderOfDeletions}
 use Rattle.model.proofs.Compare.{and-left, and-right, and-both}
 use Rattle.model.proofs.AuditLaws.{audited-facts, audited-sound}
 use Rattle.model.proofs.RemovalLaws.{left-files, reduced-twice}
@@ -44,7 +44,7 @@ module _ (e : Entry) where
       and-both (spares-member c es (sub c (List·Memᴰ·head refl)) h) (spared-by-fewer ds es (λ d m. sub d (List·Memᴰ·tail m)) h)
 
   -- lists of the same calls spare the same
-  spared-alike : (ds es : List Call) → ((c : Call) → List·Memᴰ c ds ↔ List·Memᴰ c es) → spared ds e ≡ spared es e
+  spared-alike : (ds es : List Call) → SameCalls ds es → spared ds e ≡ spared es e
   spared-alike ds es same = by (spared ds e) (spared es e) (spared-by-fewer es ds (λ c. same c .1)) (spared-by-fewer ds es (λ c. same c .0))
     where
       by : (a b : Bool) → (a ≡ true → b ≡ true) → (b ≡ true → a ≡ true) → a ≡ b
@@ -123,21 +123,24 @@ module _ (st : State) (o : InOrder st) where
   order-is-free : (Leaves : List Call → State → Type 0) → ((ds : List Call) (x : State) → AllFit ds → Leaves ds x → x ≡ run st ds) → OrderIsFree Leaves
   order-is-free Leaves is =
       record {
-        same-go = λ ds es x y f g d e l m same.
-            let a = deleted ds x f d l in
-            let b = deleted es y g e m in
+        same-go = λ ds es x y l m same.
+            let a = deleted ds x l in
+            let b = deleted es y m in
             a ∙ reduced-told (spared ds) (spared es) (rw (a, b) at same) ∙ sym b;
-        any-order = λ ds es x y f g d e l m same.
-            deleted ds x f d l ∙ reduced-by (spared ds) (spared es) (staying-alike (spared ds) (spared es) (λ c. spared-alike c ds es same) (filesOf st))
-            ∙ sym (deleted es y g e m);
-        no-keep = λ ds es x y f g d e l m same.
-            let a : SameFiles x (reduced (spared ds) st) = rw (is ds x f l) (run-files st ds o f d) in
-            let b : SameFiles y (reduced (spared es) st) = rw (is es y g m) (run-files st es o g e) in
+        any-order = λ ds es x y l m same.
+            deleted ds x l ∙ reduced-by (spared ds) (spared es) (staying-alike (spared ds) (spared es) (λ e. spared-alike e ds es same) (filesOf st))
+            ∙ sym (deleted es y m);
+        no-keep = λ ds es x y l m same.
+            let a = filed ds x l in
+            let b = filed es y m in
             files-through a (rw (reduced-told (spared ds) (spared es) (held-alike a b same)) (files-back b));
       }
     where
-      deleted : (ds : List Call) (x : State) → AllFit ds → Each IsDeletion ds → Leaves ds x → x ≡ reduced (spared ds) st
-      deleted ds x f d l = is ds x f l ∙ deletions-leave st ds (audited-sound st (o .audited)) d
+      deleted : (ds : List Call) (x : State) → LeftBy IsDeletion Leaves ds x → x ≡ reduced (spared ds) st
+      deleted ds x l = is ds x (l .fit) (l .leaves) ∙ deletions-leave st ds (audited-sound st (o .audited)) (l .each)
+
+      filed : (ds : List Call) (x : State) → LeftBy IsNoKeep Leaves ds x → SameFiles x (reduced (spared ds) st)
+      filed ds x l = rw (is ds x (l .fit) (l .leaves)) (run-files st ds o (l .fit) (l .each))
 
 -- ---- the theorems
 

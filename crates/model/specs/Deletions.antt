@@ -30,6 +30,10 @@ unfoldable pub Each : (Call → Type 0) → List Call → Type 0
 Each P [] = Unit
 Each P (c ∷ cs) = P c × Each P cs
 
+-- each call of the one is among those of the other
+abbrev pub SameCalls : List Call → List Call → Type 0
+SameCalls ds es = (c : Call) → List·Memᴰ c ds ↔ List·Memᴰ c es
+
 -- ---- what they leave
 
 -- the call lets the file of an entry go, if there is one: a drop that of its time, a marked deletion those of its mark
@@ -70,16 +74,20 @@ pub record SameFiles (x y : State) : Type 0 where
   pub same-catalogue : x .memory .catalogue ≡ y .memory .catalogue
   pub same-areas : x .memory .areas ≡ y .memory .areas
 
--- of lists ds and es that leave x and y. After deletions alone the whole stores are the same, their numbers too
+-- a list of such calls, which leaves x
+pub record LeftBy (Such : Call → Type 0) (Leaves : List Call → State → Type 0) (cs : List Call) (x : State) : Type 0 where
+  pub fit : AllFit cs
+  pub each : Each Such cs
+  pub leaves : Leaves cs x
+
+-- from one store, by whatever way the calls of a list leave another
 pub record OrderIsFree (Leaves : List Call → State → Type 0) : Type 0 where
-  pub same-go : (ds es : List Call) (x y : State) → AllFit ds → AllFit es → Each IsDeletion ds → Each IsDeletion es → Leaves ds x → Leaves es y
-      → SameHeld x y → x ≡ y
-  -- so the same deletions "in any order", however often each
-  pub any-order : (ds es : List Call) (x y : State) → AllFit ds → AllFit es → Each IsDeletion ds → Each IsDeletion es → Leaves ds x → Leaves es y
-      → ((c : Call) → List·Memᴰ c ds ↔ List·Memᴰ c es) → x ≡ y
+  -- after deletions alone the whole store is the same, its numbers too
+  pub same-go : (ds es : List Call) (x y : State) → LeftBy IsDeletion Leaves ds x → LeftBy IsDeletion Leaves es y → SameHeld x y → x ≡ y
+  -- so after the same deletions "in any order", however often each
+  pub any-order : (ds es : List Call) (x y : State) → LeftBy IsDeletion Leaves ds x → LeftBy IsDeletion Leaves es y → SameCalls ds es → x ≡ y
   -- whatever else is called between, requests included, catalogue and areas are the same
-  pub no-keep : (ds es : List Call) (x y : State) → AllFit ds → AllFit es → Each IsNoKeep ds → Each IsNoKeep es → Leaves ds x → Leaves es y
-      → SameHeld x y → SameFiles x y
+  pub no-keep : (ds es : List Call) (x y : State) → LeftBy IsNoKeep Leaves ds x → LeftBy IsNoKeep Leaves es y → SameHeld x y → SameFiles x y
 
 -- after every list of calls
 abbrev pub OrderOfDeletions : Type 0

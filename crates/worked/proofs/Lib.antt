@@ -17,3 +17,4 @@ pub mod AuditCases
 pub mod CallCases
 pub mod LateCases
 pub mod MarkCases
+pub mod KeepingMoreCases

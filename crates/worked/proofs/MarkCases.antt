@@ -25,14 +25,14 @@ use Rattle.worked.proofs.LateCases.{table60}
 -- ---- the stores
 
 -- so many files, these entries and areas; behind them, foreign, an entry past the capacity of six, an area and five bytes
-abbrev with : ℕ → List Entry → List ℕ → State
+abbrev pub with : ℕ → List Entry → List ℕ → State
 with files entries areas = wideWith files (entries ++ (entry 99 98 9 ∷ [])) (areas ++ replicate 37 9)
 
-abbrev blank : State
+abbrev pub blank : State
 blank = with 0 (replicate 6 (entry 0 0 0)) (replicate 160 9)
 
 -- kept in no order of times
-abbrev filed : State
+abbrev pub filed : State
 filed = run blank (keep 40 7 ∷ keep 20 5 ∷ keep 60 0 ∷ keep 10 7 ∷ keep 30 5 ∷ [])
 
 abbrev table10 : List ℕ
