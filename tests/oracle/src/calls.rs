@@ -3,12 +3,14 @@
 
 mod almost;
 mod damage;
+mod deletions;
 mod late;
 mod marks;
 mod next;
 mod start;
 
 pub use damage::damage;
+pub use deletions::deletions;
 pub use late::Late;
 pub use marks::Marks;
 pub use next::call;

@@ -1,4 +1,4 @@
-//! An independent implementation of 01, "The stock history store", with wishes 1 to 6 of 02, to test
+//! An independent implementation of 01, "The stock history store", with wishes 1 to 6 and 9 of 02, to test
 //! other ones against. It is written for plain reading, not for speed: each definition follows a sentence of 01 or 02.
 
 pub mod calls;

@@ -3,6 +3,7 @@
 
 mod answers;
 mod c;
+pub mod fewer_files;
 
 use crate::outset::{Entry, Place};
 use crate::position::Position;

@@ -40,6 +40,10 @@ impl Random {
         list[self.place(list.len())]
     }
 
+    pub fn shuffle<T>(&mut self, list: &mut [T]) {
+        (1..list.len()).rev().for_each(|k| list.swap(k, self.place(k + 1)));
+    }
+
     pub fn percent(&mut self, chance: u64) -> bool {
         self.from(1, 100) <= chance
     }

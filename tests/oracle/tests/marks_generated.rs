@@ -31,10 +31,6 @@ fn with_files(log: &Log, files: &[(u64, u32)]) -> Store {
     store
 }
 
-fn shuffle<T>(random: &mut Random, list: &mut [T]) {
-    (1..list.len()).rev().for_each(|k| list.swap(k, random.place(k + 1)));
-}
-
 /// Up to 16 files at or beside requests, in any order, mostly of few marks.
 fn some_files(random: &mut Random, log: &Log) -> Files {
     if log.records.is_empty() {
@@ -44,7 +40,7 @@ fn some_files(random: &mut Random, log: &Log) -> Files {
     let many = random.from(0, 15);
     let kept = times(random, log, many).into_iter().filter(|t| *t > 0);
     let mut files: Files = kept.map(|t| (t, random.pick(marks))).collect();
-    shuffle(random, &mut files);
+    random.shuffle(&mut files);
     files
 }
 
@@ -61,7 +57,7 @@ fn dropped_one_by_one(random: &mut Random, store: &Store, mark: u32) -> Store {
     let mut store = store.clone();
     let mut gone: Vec<u64> =
         store.kept().iter().filter(|entry| entry.mark == mark).map(|entry| entry.time).collect();
-    shuffle(random, &mut gone);
+    random.shuffle(&mut gone);
     gone.iter().for_each(|&t| store.drop_file(t).unwrap());
     store
 }

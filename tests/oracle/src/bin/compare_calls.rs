@@ -1,7 +1,8 @@
 //! Makes random lists of calls on the oracle and on the proved store, and compares them byte by byte after
 //! each call: the answer, the numbers, all of the lent memory, the output and the workspace. On memory that the
 //! audit denies, where 01 leaves most answers open, it compares question 1, that a refusal changes nothing, the
-//! bytes no call names, and the audit's own answer. Bytes are lent at odd places, others from call to call.
+//! bytes no call names, and the audit's own answer. Bytes are lent at odd places, others from call to call. From the
+//! state that a list leaves, the proved store is then held against wish 9 of 02.
 
 use oracle::calls::{call, damage, last_records, start, Call, Late, Marks, Plan};
 use oracle::layout::HEADER_BYTES;
@@ -10,11 +11,12 @@ use oracle::log::log_length;
 use oracle::net_change::output_length;
 use oracle::outset::Place;
 use oracle::position::Position;
-use oracle::proved;
+use oracle::proved::{self, fewer_files};
 use oracle::random::Random;
 use oracle::store::{Memory, Numbers, Refusal, Store, TableAnswer, View};
 use oracle::table::table_length;
 use oracle::tree::word_count;
+use std::collections::BTreeMap;
 use std::panic::catch_unwind;
 use std::process::ExitCode;
 
@@ -98,6 +100,23 @@ impl Answer {
 struct Met {
     late: Late,
     marks: Marks,
+    /// from the states that lists leave (02, wish 9)
+    fewer_files: BTreeMap<&'static str, u64>,
+}
+
+impl Met {
+    fn add(&mut self, Met { late, marks, fewer_files }: Met) {
+        self.late.add(late);
+        self.marks.add(marks);
+        fewer_files.into_iter().for_each(|(what, often)| *self.fewer_files.entry(what).or_default() += often);
+    }
+
+    /// Whether every kind was met.
+    fn all(&self) -> bool {
+        self.late.all().iter().all(|(_, often)| *often > 0)
+            && self.marks.each(1)
+            && self.fewer_files.len() == fewer_files::KINDS
+    }
 }
 
 struct Difference {
@@ -122,10 +141,7 @@ fn main() -> ExitCode {
     let mut met = Met::default();
     for number in 0..lists {
         match catch_unwind(|| compare_list(&mut Random::for_case(seed, number))) {
-            Ok(Ok(Met { late, marks })) => {
-                met.late.add(late);
-                met.marks.add(marks);
-            }
+            Ok(Ok(of_list)) => met.add(of_list),
             Ok(Err(difference)) => return report(&format!("seed {seed}, list {number}"), &difference),
             Err(_) => {
                 println!("seed {seed}, list {number}: stopped");
@@ -136,8 +152,8 @@ fn main() -> ExitCode {
     println!("{lists} lists of calls agree (seed {seed})");
     report_late(&met.late);
     report_marks(&met.marks);
-    let met_all = met.late.all().iter().all(|(_, often)| *often > 0) && met.marks.each(1);
-    if !met_all && lists >= LONG {
+    report_fewer_files(&met.fewer_files);
+    if !met.all() && lists >= LONG {
         println!("one of these was never met");
         return ExitCode::FAILURE;
     }
@@ -161,6 +177,12 @@ fn report_marks(marks: &Marks) {
         let each: Vec<String> = kinds.iter().map(|([_, what], often)| format!("{what} {often}")).collect();
         println!("  {}: {}", kinds[0].0[0], each.join("; "));
     }
+}
+
+/// How often what was met from the states that lists leave.
+fn report_fewer_files(fewer_files: &BTreeMap<&str, u64>) {
+    let each: Vec<String> = fewer_files.iter().map(|(what, often)| format!("{what} {often}")).collect();
+    println!("fewer files: {}", each.join("; "));
 }
 
 fn report(list: &str, Difference { calls, what }: &Difference) -> ExitCode {
@@ -223,7 +245,11 @@ fn compare_list(random: &mut Random) -> Result<Met, Difference> {
         next = call(random, &plan, &oracle);
     }
     calls.push(Call::Audit);
-    compare_whole(&mut oracle, &mut proved, Call::Audit, 0).map_err(|what| Difference { calls, what })?;
+    let compared = compare_whole(&mut oracle, &mut proved, Call::Audit, 0)
+        .and_then(|()| fewer_files::compare(random, &proved));
+    for what in compared.map_err(|what| Difference { calls, what })? {
+        *met.fewer_files.entry(what).or_default() += 1;
+    }
     Ok(met)
 }
 

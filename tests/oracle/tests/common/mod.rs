@@ -1,8 +1,10 @@
 //! Stores and answers that several tests use.
 #![allow(dead_code)]
 
+pub mod deletions;
 pub mod generated;
 pub mod legal;
+pub mod parts;
 pub mod set;
 pub mod units;
 
