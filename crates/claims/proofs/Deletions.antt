@@ -20,13 +20,12 @@ use Rattle.model.proofs.AuditLaws.{audited-facts, audited-sound}
 use Rattle.model.proofs.RemovalLaws.{left-files, reduced-twice}
 use Rattle.model.proofs.RemovalLists.{all-stay, deletion-reduces, deletions-leave}
 use Rattle.model.proofs.HeldTimes.{told-by-times}
-use Rattle.claims.proofs.Untouched.{files-alike, same-files, insert-untouched, delete-untouched, update-untouched}
+use Rattle.claims.proofs.Untouched.{files-alike, same-files, files-turned, files-through, insert-untouched, delete-untouched, update-untouched}
 use Rattle.claims.proofs.Lists.{step-in-order, stays-in-order}
 use Rattle.claims.proofs.Made.{ran-is, ran-from-is}
 
 -- ---- the calls of a list
 
--- a list whose calls are all among another's spares what the other spares
 module _ (e : Entry) where
   spares-member : (c : Call) (es : List Call) → List·Memᴰ c es → spared es e ≡ true → not (letsGo c e) ≡ true
   unfolding spared
@@ -37,6 +36,7 @@ module _ (e : Entry) where
       by rest (inl q) = rw q (and-left (not (letsGo d e)) (spared es e) h)
       by rest (inr n) = rest n (and-right (not (letsGo d e)) (spared es e) h)
 
+  -- a list whose calls are all among another's spares what the other spares
   spared-by-fewer : (ds es : List Call) → ((c : Call) → List·Memᴰ c ds → List·Memᴰ c es) → spared es e ≡ true → spared ds e ≡ true
   unfolding spared
   spared-by-fewer [] es sub h = refl
@@ -52,6 +52,7 @@ module _ (e : Entry) where
       by false true f g = g refl
       by false false f g = refl
 
+-- two tests that agree
 staying-alike : (p q : Entry → Bool) → ((e : Entry) → p e ≡ q e) → (fs : List File) → staying p fs ≡ staying q fs
 unfolding staying
 staying-alike p q same [] = refl
@@ -59,6 +60,7 @@ staying-alike p q same (f ∷ fs) = rw (same (f .entry), staying-alike p q same 
 
 -- ---- other calls between
 
+-- the same files removed from the same
 reduced-alike : (p : Entry → Bool) {x y : State} → SameFiles x y → SameFiles (reduced p x) (reduced p y)
 reduced-alike p s =
     record {
@@ -68,6 +70,7 @@ reduced-alike p s =
       same-areas = rw (s .same-limit, s .same-count, s .same-catalogue, s .same-areas);
     }
 
+-- a call that is no keep: of catalogue and areas what is left is a removal
 step-files : (st : State) → sound st ≡ true → (c : Call) → IsNoKeep c → SameFiles (step st c) (reduced (λ e. not (letsGo c e)) st)
 unfolding step letsGo
 step-files st h (Call.insert t a c) n = rw (all-stay st h) (insert-untouched st t a c)
@@ -84,21 +87,10 @@ step-files st h (Call.drop t) n = rw (deletion-reduces st h (Call.drop t) (IsDel
 step-files st h (Call.dropMarked k) n = rw (deletion-reduces st h (Call.dropMarked k) (IsDeletion.dropsMarked k)) (same-files _)
 step-files st h Call.audit n = rw (all-stay st h) (same-files st)
 
-files-through : {x y z : State} → SameFiles x y → SameFiles y z → SameFiles x z
-files-through a b =
-    record {
-      same-limit = a .same-limit ∙ b .same-limit;
-      same-count = a .same-count ∙ b .same-count;
-      same-catalogue = a .same-catalogue ∙ b .same-catalogue;
-      same-areas = a .same-areas ∙ b .same-areas;
-    }
-
-files-back : {x y : State} → SameFiles x y → SameFiles y x
-files-back s = record { same-limit = sym (s .same-limit); same-count = sym (s .same-count); same-catalogue = sym (s .same-catalogue); same-areas = sym (s .same-areas) }
-
 held-alike : {x x' y y' : State} → SameFiles x x' → SameFiles y y' → SameHeld x y → SameHeld x' y'
 held-alike a b same t = rw (← files-alike a, ← files-alike b) (same t)
 
+-- and a list of them
 run-files : (st : State) (ds : List Call) → InOrder st → AllFit ds → Each IsNoKeep ds → SameFiles (run st ds) (reduced (spared ds) st)
 unfolding run AllFit Each spared
 run-files st [] o f n = rw (all-stay st (audited-sound st (o .audited))) (same-files st)
@@ -110,6 +102,7 @@ run-files st (c ∷ ds) o f n =
 -- ---- from a store in order
 
 module _ (st : State) (o : InOrder st) where
+  -- by two tests that leave the same files, or the same times
   reduced-by : (p q : Entry → Bool) → staying p (filesOf st) ≡ staying q (filesOf st) → reduced p st ≡ reduced q st
   reduced-by p q same = ap (λ (gs : List File). state (withCount (st .numbers) (length gs)) (withFiles (closedUp (st .numbers .limit) (st .numbers .files) gs) (st .memory))) same
 
@@ -133,7 +126,7 @@ module _ (st : State) (o : InOrder st) where
         no-keep = λ ds es x y l m same.
             let a = filed ds x l in
             let b = filed es y m in
-            files-through a (rw (reduced-told (spared ds) (spared es) (held-alike a b same)) (files-back b));
+            files-through a (rw (reduced-told (spared ds) (spared es) (held-alike a b same)) (files-turned b));
       }
     where
       deleted : (ds : List Call) (x : State) → LeftBy IsDeletion Leaves ds x → x ≡ reduced (spared ds) st

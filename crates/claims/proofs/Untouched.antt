@@ -1,6 +1,6 @@
--- Insert, delete and update touch no count file: catalogue and areas stay as they were. Assumes nothing.
+-- Stores with the same catalogue and areas; insert, delete and update, which leave both as they were. Assumes nothing.
 use Prim.Native.Nat.{ℕ}
-use mathlib.Core.Path.{_≡_, refl}
+use mathlib.Core.Path.{_≡_, refl, sym, _∙_}
 use mathlib.Core.List.{List}
 use Rattle.model.specs.Answers.{firstNo}
 use Rattle.model.specs.Records.{Rec}
@@ -15,6 +15,20 @@ files-alike s = rw (s .same-limit, s .same-count, s .same-catalogue, s .same-are
 
 pub same-files : (st : State) → SameFiles st st
 same-files st = record { same-limit = refl; same-count = refl; same-catalogue = refl; same-areas = refl }
+
+pub files-turned : {x y : State} → SameFiles x y → SameFiles y x
+files-turned s = record { same-limit = sym (s .same-limit); same-count = sym (s .same-count); same-catalogue = sym (s .same-catalogue); same-areas = sym (s .same-areas) }
+
+pub files-through : {x y z : State} → SameFiles x y → SameFiles y z → SameFiles x z
+files-through a b =
+    record {
+      same-limit = a .same-limit ∙ b .same-limit;
+      same-count = a .same-count ∙ b .same-count;
+      same-catalogue = a .same-catalogue ∙ b .same-catalogue;
+      same-areas = a .same-areas ∙ b .same-areas;
+    }
+
+-- ---- requests
 
 appended-untouched : (st : State) (t : ℕ) (new : List Rec) → SameFiles (appended st t new) st
 unfolding appended
