@@ -67,7 +67,8 @@ DeletionsLeave = (st : State) (ds : List Call) → sound st ≡ true → Each Is
 abbrev pub SameHeld : State → State → Type 0
 SameHeld x y = (t : ℕ) → isKept t (filesOf x) ≡ isKept t (filesOf y)
 
--- "the same catalogue and areas", whole: as many files, their entries, zeros behind them, areas set free, and all that lies behind
+-- "the same catalogue and areas", whole: areas of one length, as many files, their entries, zeros behind them, areas set free, and all
+-- that lies behind
 pub record SameFiles (x y : State) : Type 0 where
   pub same-limit : x .numbers .limit ≡ y .numbers .limit
   pub same-count : x .numbers .files ≡ y .numbers .files
