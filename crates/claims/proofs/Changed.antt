@@ -24,10 +24,10 @@ use Rattle.log.specs.Widths.{RecordFits, AllFit}
 use Rattle.model.specs.Facts.{AuditedFacts, InOrder}
 use Rattle.claims.specs.Following.{MayFollow}
 use Rattle.model.proofs.AuditLaws.{audited-facts}
+use Rattle.model.proofs.Leaving.{either-left}
 use Rattle.claims.proofs.FactLaws.{length-log, rows-now, count-fits}
 use Rattle.claims.proofs.Regions.{asked}
 use Rattle.claims.proofs.Appended.{appended-in-order}
-use Rattle.claims.proofs.Leaving.{either-left}
 
 -- ---- room
 

@@ -20,7 +20,7 @@ use Rattle.model.proofs.AuditLaws.{audited-facts, audited-sound}
 use Rattle.model.proofs.RemovalLaws.{left-files, reduced-twice}
 use Rattle.model.proofs.RemovalLists.{all-stay, deletion-reduces, deletions-leave}
 use Rattle.model.proofs.HeldTimes.{told-by-times}
-use Rattle.claims.proofs.Untouched.{files-alike, same-files, files-turned, files-through, insert-untouched, delete-untouched, update-untouched}
+use Rattle.model.proofs.Untouched.{files-alike, same-files, files-turned, files-through, insert-untouched, delete-untouched, update-untouched}
 use Rattle.claims.proofs.Lists.{step-in-order, stays-in-order}
 use Rattle.claims.proofs.Made.{ran-is, ran-from-is}
 

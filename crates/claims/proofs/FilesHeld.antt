@@ -17,7 +17,7 @@ use Rattle.model.specs.Demands.{left, marksAt, otherMarks, heldNext, heldAfter,
 use Rattle.model.proofs.Compare.{lt-eqb}
 use Rattle.model.proofs.AuditLaws.{audited-sound}
 use Rattle.model.proofs.RemovalLaws.{left-files}
-use Rattle.claims.proofs.Untouched.{files-alike, insert-untouched, delete-untouched, update-untouched}
+use Rattle.model.proofs.Untouched.{files-alike, insert-untouched, delete-untouched, update-untouched}
 use Rattle.claims.proofs.Opened.{start-audited, start-files}
 use Rattle.claims.proofs.Kept.{keep-asked, kept-files}
 use Rattle.claims.proofs.Lists.{step-in-order}

@@ -21,8 +21,8 @@ use Rattle.model.specs.Facts.{FileIs, FilesAre, AuditedFacts, InOrder}
 use Rattle.model.proofs.AuditLaws.{audited-facts, audited-of-facts, capacity-entries, areas-within}
 use Rattle.model.proofs.FileLaws.{length-files-of, length-whole, length-staying}
 use Rattle.model.proofs.FilesBack.{files-back}
+use Rattle.model.proofs.Leaving.{either-left}
 use Rattle.claims.proofs.Regions.{SameLengths, asked, entries-put, entries-of-lendable}
-use Rattle.claims.proofs.Leaving.{either-left}
 use Rattle.claims.proofs.FileLists.{FilesFit, files-fit, files-fit-append, no-files-fit, entries-of-files, bytes-of-files, whole-of-fit}
 use Rattle.claims.proofs.FilesKept.{length-file-in, files-with, files-staying, rest-back}
 

@@ -11,6 +11,7 @@ use Rattle.model.specs.Files.{keepQuestions, keepOf, notOf, dropQuestions, drop
 use Rattle.model.specs.Facts.{InOrder}
 use Rattle.model.specs.Calls.{Start, StartFits, begun, Call, CallFits, AllFit, step, run, Accepted}
 use Rattle.model.specs.Demands.{left}
+use Rattle.model.proofs.Leaving.{either-left}
 use Rattle.lending.specs.declared.Lengths.{Lengths}
 use Rattle.lending.specs.Lengths.{lengthsOf}
 use Rattle.lending.specs.Enough.{Enough, SettingsAre, lentBy, EnoughForCalls}
@@ -20,7 +21,6 @@ use Rattle.claims.proofs.Regions.{SameLengths}
 use Rattle.claims.proofs.Started.{fresh-state, fresh-lengths}
 use Rattle.claims.proofs.Opened.{open-state, open-lengths, start-audited}
 use Rattle.claims.proofs.Appended.{appended-lengths}
-use Rattle.claims.proofs.Leaving.{either-left}
 use Rattle.claims.proofs.Changed.{insert-leaves, delete-leaves, update-leaves}
 use Rattle.claims.proofs.Kept.{keep-asked, kept-lengths, reduced-lengths}
 use Rattle.claims.proofs.Lists.{step-in-order}

@@ -3,8 +3,6 @@ pub mod IndexWords
 pub mod Regions
 pub mod Started
 pub mod Opened
-pub mod Leaving
-pub mod Untouched
 pub mod Appended
 pub mod Changed
 pub mod SecondDemands

@@ -8,7 +8,7 @@ use Rattle.model.specs.Memory.{State}
 use Rattle.model.specs.Files.{dropMarkedQuestions, dropMarkedOf}
 use Rattle.model.specs.Facts.{InOrder}
 use Rattle.model.specs.Demands.{DemandThree, OneLog, SameTables, NoTableDiffers, ThirdDemand, left}
-use Rattle.claims.proofs.Leaving.{either-left}
+use Rattle.model.proofs.Leaving.{either-left}
 use Rattle.claims.proofs.Kept.{drop-marked-audited}
 use Rattle.claims.proofs.Lists.{stays-in-order}
 use Rattle.claims.proofs.NetChanges.{net-change-is}

@@ -19,6 +19,8 @@ pub mod NearestLaws
 pub mod BetweenLaws
 pub mod MoreFileLaws
 pub mod PromiseLaws
+pub mod Leaving
+pub mod Untouched
 pub mod AppendLaws
 pub mod RecordLaws
 pub mod FirstWrongLaws

@@ -52,6 +52,8 @@ module _ (R : ℕ) (areas : List ℕ) where
       by rest (inl q) = let same : e .time ≡ h .time = ap (λ (x : Held). x .time) (sym q) in rw (eq-eqb (e .time) (h .time) same)
       by rest (inr n) = or-right (eqb (e .time) (h .time)) (isKept (h .time) (filesIn R areas (suc i) es)) (rest n)
 
+-- ---- two stores with one log
+
 module _ (more fewer : State) (one : logOf more ≡ logOf fewer) (last : more .numbers .last ≡ fewer .numbers .last) (every : HoldsEvery more fewer) where
   -- a table held by the one has its time held by the other
   held-too : (h : Held) → List·Memᴰ h (held fewer) → At (h .time) (held more)
@@ -80,7 +82,7 @@ module _ (more fewer : State) (one : logOf more ≡ logOf fewer) (last : more .n
       by-cases (inl e) = record { table = emptyTable; among = List·Memᴰ·head refl; of-time = sym (ap (λ (x : Held). x .time) e) }
       by-cases (inr n) = by-place (List·Memᴰ·append-cases (filesHeld fewer) n)
 
-  pub no-farther-than : (t : ℕ) → t ≤ more .numbers .last → outsetFor more t .between ≤ outsetFor fewer t .between
+  no-farther-than : (t : ℕ) → t ≤ more .numbers .last → outsetFor more t .between ≤ outsetFor fewer t .between
   no-farther-than t l =
       let c = outsetFor fewer t in
       let h : At (c .outset .time) (held more) =

@@ -28,7 +28,7 @@ use Rattle.model.proofs.FilesBack.{files-back, files-over}
 abbrev pub both : (p q : Entry → Bool) → Entry → Bool
 both p q e = p e && q e
 
-pub staying-both : (p q : Entry → Bool) (fs : List File) → staying q (staying p fs) ≡ staying (both p q) fs
+staying-both : (p q : Entry → Bool) (fs : List File) → staying q (staying p fs) ≡ staying (both p q) fs
 unfolding staying
 staying-both p q [] = refl
 staying-both p q (f ∷ fs) = by (staying-both p q fs) (p (f .entry))

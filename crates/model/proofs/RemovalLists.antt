@@ -52,7 +52,7 @@ module _ (st : State) (h : sound st ≡ true) where
       by true e = rw (h, e)
       by false e = rw (h, e) (sym all-stay)
 
-  pub deletion-sound : (c : Call) → IsDeletion c → sound (step st c) ≡ true
+  deletion-sound : (c : Call) → IsDeletion c → sound (step st c) ≡ true
   deletion-sound c d = rw (deletion-reduces c d) (reduced-sound st h (λ e. not (letsGo c e)))
 
 -- ---- a list of them

@@ -2,13 +2,13 @@
 use Prim.Native.Nat.{ℕ}
 use mathlib.Core.Path.{_≡_, refl, sym, _∙_}
 use mathlib.Core.List.{List}
 use Rattle.model.specs.Answers.{firstNo}
 use Rattle.model.specs.Records.{Rec}
 use Rattle.model.specs.Memory.{State}
 use Rattle.model.specs.Changes.{insertQuestions, presentQuestions, appended, insertOf, deleteOf, updateOf}
 use Rattle.model.specs.Files.{filesOf}
 use Rattle.model.specs.Deletions.{SameFiles}
-use Rattle.claims.proofs.Leaving.{either-left}
+use Rattle.model.proofs.Leaving.{either-left}
 
 pub files-alike : {x y : State} → SameFiles x y → filesOf x ≡ filesOf y
 files-alike s = rw (s .same-limit, s .same-count, s .same-catalogue, s .same-areas)
