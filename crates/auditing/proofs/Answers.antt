@@ -14,8 +14,8 @@ use Rattle.model.specs.declared.Entry.{Entry}
 use Rattle.model.specs.declared.Numbers.{Numbers}
 use Rattle.model.specs.Records.{records}
 use Rattle.model.specs.Memory.{State, noEntry, fits, capacity}
-use Rattle.model.specs.Pages.{pageTimes}
-use Rattle.model.specs.Tree.{withTree}
+use Rattle.model.specs.Pages.{pagesOf, pageTimes}
+use Rattle.model.specs.Tree.{nodesOf, withTree}
 use Rattle.model.specs.Promises.{storeOf}
 use Rattle.model.specs.Audit.{auditOf, logAudited, tableAudited, indexAudited, entriesZero, restAudited, Audited}
 use Rattle.model.specs.Facts.{AuditedFacts}
@@ -26,6 +26,10 @@ use Rattle.catalogue.specs.Files.{byValue, Loaded}
 use Rattle.catalogue.proofs.EntryLaws.{loaded-by-value}
 use Rattle.limits.specs.Fit.{Fit}
 use Rattle.tree_audit.specs.Times.{Decides}
+use Rattle.tree.specs.Places.{placeOf, withTreeAt, stretchOf, Seen}
+use Rattle.tree.proofs.Stretches.{seen-laid, stretch-audited}
+use Rattle.model.proofs.PageLaws.{length-page-times}
+use Rattle.model.proofs.RecordLaws.{length-records}
 use Rattle.tree_audit.specs.Stands.{Auditable}
 use Rattle.auditing.specs.Walk.{LogStands, FilesFrom, ZeroEntries, TableReady, FilesReady}
 
@@ -42,17 +46,30 @@ denied st other = by (auditOf st) refl
 pub behind-header : (log : List ℕ) → take (length log - 24) (drop 24 log) ≡ drop 24 log
 behind-header log = take-all (length log - 24) (drop 24 log) (omega (arith, length-drop 24 log))
 
-pub tree-auditable : {s : Numbers} (log : List ℕ) {index table entries areas : ℕ} → Fit s (length log) index table entries areas
-    → Auditable (s .order) (s .page) (s .records) (length (drop 24 log)) index
-tree-auditable log fit = record {
-  order-low = fit .in-range .order-low;
-  order-high = fit .in-range .order-high;
-  page-low = fit .in-range .page-low;
-  page-high = fit .in-range .page-high;
-  records-few = fit .in-range .records-few;
-  log-long = omega (arith, fit .log-long, length-drop 24 log);
-  index-long = fit .index-long;
-}
+-- the index, of which question 1 asked only how many words it is seen as
+module _ {s : Numbers} (log index : List ℕ) {words table entries areas e : ℕ} {starts : List ℕ} (fit : Fit s (length log) words table entries areas)
+    (seen : Seen (s .order) e starts words (length index)) where
+  pub tree-auditable : Auditable (s .order) (s .page) (s .records) (length (drop 24 log)) e starts (length index)
+  tree-auditable = record {
+    order-low = fit .in-range .order-low;
+    order-high = fit .in-range .order-high;
+    page-low = fit .in-range .page-low;
+    page-high = fit .in-range .page-high;
+    records-few = fit .in-range .records-few;
+    log-long = omega (arith, fit .log-long, length-drop 24 log);
+    laid = seen-laid seen (nodesOf (s .order) (pagesOf (s .page) (s .records))) (fit .index-long);
+  }
+
+  -- the tree stands at the nodes' places just where it stands in the stretch
+  pub tree-of-stretch :
+      let keys = pageTimes (s .page) (records (drop 24 log) (s .records)) in
+      let stretch = stretchOf (s .order) e starts words index in
+      same (withTreeAt (placeOf (s .order) e starts) (s .order) keys index) index ≡ same (withTree (s .order) keys stretch) stretch
+  tree-of-stretch =
+      let rs = records (drop 24 log) (s .records) in
+      let pages : length (pageTimes (s .page) rs) ≡ pagesOf (s .page) (s .records) =
+      length-page-times (s .page) (omega (arith, fit .in-range .page-low)) rs ∙ ap (pagesOf (s .page)) (length-records (drop 24 log) (s .records)) in
+      stretch-audited index (fit .in-range .order-low) seen (pageTimes (s .page) rs) (rw pages (fit .index-long))
 
 module _ {s : Numbers} (log : List ℕ) {index table entries areas : ℕ} (fit : Fit s (length log) index table entries areas) where
   log-long : 24 * s .records ≤ length (drop 24 log)

@@ -8,6 +8,7 @@ ghost use Rattle.codec.specs.Parts.{part};
 ghost use Rattle.model.specs.declared.Entry.{Entry};
 ghost use Rattle.model.specs.Answers.{netChangeOutcome};
 ghost use Rattle.model.specs.Promises.{storeOf, NetChangePromise};
+ghost use Rattle.tree.specs.Places.{Seen, stretchLent};
 ghost use Rattle.catalogue.specs.Files.{byValue};
 ghost use Rattle.netting.specs.Merge.{Merges};
 ghost use Rattle.comparing.specs.Both.{BothReady, BothWorkedOut, Comparable};
@@ -27,6 +28,9 @@ fn work_out_both<'a>(
     s: Numbers,
     log: &[u8],
     index: &[u64],
+    extent: u32,
+    starts: &[u64],
+    words: usize,
     current: &'a [u8],
     areas: &'a [u8],
     c: Catalogue,
@@ -34,16 +38,32 @@ fn work_out_both<'a>(
     b: u64,
     work: &mut [u8],
 ) -> Both
-    requires { ⌜ BothReady s (length (now log)) (length (now index)) a b (length (now work)) ⌝ }
+    requires { ⌜ BothReady s (length (now log)) words a b (length (now work)) ⌝ }
+    requires { ⌜ Seen (s .order) extent (now starts) words (length (now index)) ⌝ }
     ensures within { λ n. ⌜ (n .first ≤ s .limit) × (n .second ≤ s .limit) ⌝ }
-    ensures worked { λ n. ⌜ BothWorkedOut s (now (log .entry)) (now (index .entry)) (now (current .entry)) (now (areas .entry)) c a b n (now (work .exit)) ⌝ }
+    ensures worked { λ n. ⌜ BothWorkedOut s (now (log .entry)) (stretchLent (s .order) extent starts words index) (now (current .entry)) (now (areas .entry)) c a b n (now (work .exit)) ⌝ }
 {
     let size = 8 * (s.limit as usize);
-    let first = tables::work_out(s, log, index, current, areas, c, a, &mut work[0..size]);
+    let first = tables::work_out(
+        s,
+        log,
+        index,
+        extent,
+        starts,
+        words,
+        current,
+        areas,
+        c,
+        a,
+        &mut work[0..size],
+    );
     let second = tables::work_out(
         s,
         log,
         index,
+        extent,
+        starts,
+        words,
         current,
         areas,
         c,
@@ -75,6 +95,9 @@ pub fn net_change<'a>(
     s: Numbers,
     log: &[u8],
     index: &[u64],
+    extent: u32,
+    starts: &[u64],
+    words: usize,
     current: &'a [u8],
     c: Catalogue,
     areas: &'a [u8],
@@ -83,11 +106,12 @@ pub fn net_change<'a>(
     out: &mut [u8],
     work: &mut [u8],
 ) -> NetChangeAnswer
+    requires { ⌜ Seen (s .order) extent (now starts) words (length (now index)) ⌝ }
     ensures { λ r. ⌜ ((catalogue : List Entry) → c ≡ byValue catalogue
-        → NetChangePromise (storeOf s (now (log .entry)) (now (index .entry)) (now (current .entry)) catalogue (now (areas .entry))) a b
+        → NetChangePromise (storeOf s (now (log .entry)) (stretchLent (s .order) extent starts words index) (now (current .entry)) catalogue (now (areas .entry))) a b
         (now (out .entry)) (now (work .entry)) (netChangeOutcome r) (now (out .exit)) (now (work .exit))) ⌝ }
 {
-    if limits::is_sound(s, log, index.len(), current.len(), c.lent, areas.len()) {} else {
+    if limits::is_sound(s, log, words, current.len(), c.lent, areas.len()) {} else {
         return NetChangeAnswer::Refused(Refusal::Header);
     }
     let size = 24 * (s.limit as usize);
@@ -104,6 +128,9 @@ pub fn net_change<'a>(
         s,
         log,
         index,
+        extent,
+        starts,
+        words,
         current,
         areas,
         c,

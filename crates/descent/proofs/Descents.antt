@@ -8,7 +8,7 @@ use native.Mathlib.Nat.{le-trans, mul-le-mul-right, mul-le-mul-left, mul-comm, p
 use native.Mathlib.Nat.{le-div-iff-mul-le, div-lt-iff-lt-mul, div-eq-of-lt, mul-div-cancel}
 use lib.ListN.{length, getD}
 use lib.Arith.{digits-div}
-use Rattle.model.specs.Numbering.{nodes, leafNode, innerNode, nodeWord}
+use Rattle.model.specs.Numbering.{nodes, leafNode, innerNode}
 use Rattle.model.specs.Tree.{Packed, Rising, keysUpTo}
 use Rattle.tree.specs.Levels.{innersOver}
 use Rattle.codec.specs.Search as search
@@ -43,7 +43,7 @@ module _ (d : ℕ) (two : 2 ≤ d) where
       rw e (digits-div (d - 1) {m = u} {r = u - 1} (omega arith))
 
 -- ---- a node
-module _ {d n u under first r : ℕ} (h : Node d n u under first r) where
+module _ {d : ℕ} {P : ℕ → Type 0} {u under first r : ℕ} (h : Node d P u under first r) where
   pub node-words : (r - 1) / u < d
   node-words = div-lt-iff-lt-mul {k = u} {x = r - 1} {y = d} (h .unit) .1 (omega (arith, h .fits, h .some, mul-comm u d))
 
@@ -53,11 +53,8 @@ module _ {d n u under first r : ℕ} (h : Node d n u under first r) where
       let none : (r - 1) / u ≡ 0 = div-eq-of-lt (omega (arith, h .unit)) in
       record { upto = omega arith; before = λ l. absurd (omega arith); after = λ l. absurd (omega arith) }
 
-  pub node-long : u < r → nodeWord d (first + under) + (r - 1) / u ≤ n
-  node-long more = omega (arith, node-words, h .long more)
-
 -- ---- one level down from level suc l
-module _ {d k n l u under first a r : ℕ} (h : Down d k n (suc l) u under first a r) where
+module _ {d k : ℕ} {P : ℕ → Type 0} {l u under first a r : ℕ} (h : Down d k P (suc l) u under first a r) where
   unit : u ≡ d ^ l
   unit = h .unit-is ∙ unit-of d (h .order-low) l
 
@@ -104,7 +101,7 @@ module _ {d k n l u under first a r : ℕ} (h : Down d k n (suc l) u under first
   leaf-double : (m : ℕ) → leafNode d m ≤ 2 * m
   leaf-double m = omega (arith, leaf-closed d (h .order-low) m, inners-le d (h .order-low) m)
 
-  pub down-node : Node d n u under first r
+  pub down-node : Node d P u under first r
   down-node =
       record {
         order-low = h .order-low;
@@ -114,10 +111,9 @@ module _ {d k n l u under first a r : ℕ} (h : Down d k n (suc l) u under first
         few = omega (arith, leaves-few);
         fits = omega (arith, h .fits, wide);
         small = λ more. omega (arith, node-number, leaf-double (a + u), leaves-few);
-        long = λ more.
+        reach = λ more.
             let in-all : leafNode d (a + u) < nodes d (a + r) = leaf-in d (h .order-low) (a + u) (a + r) (omega arith) in
-            let le : suc (first + under) ≤ nodes d (a + r) = omega (arith, node-number) in
-            omega (arith, mul-le-mul-right (d - 1) le, h .long);
+            h .reach (first + under) (omega (arith, node-number));
       }
 
   -- child j, one of as many as there are separators and one more
@@ -131,7 +127,7 @@ module _ {d k n l u under first a r : ℕ} (h : Down d k n (suc l) u under first
     pub child-small : first + j * under + 1 ≤ 131073
     child-small = omega (arith, child-is, leaf-double (a + j * u), child-inside, leaves-few)
 
-    pub down-child : {c v : ℕ} → c ≡ childNode first under j → v ≡ u / d → Down d k n l v (under - u) c (a + j * u) (min u (r - j * u))
+    pub down-child : {c v : ℕ} → c ≡ childNode first under j → v ≡ u / d → Down d k P l v (under - u) c (a + j * u) (min u (r - j * u))
     down-child e f =
         let last : ℕ = a + j * u + min u (r - j * u) in
         let past : ℕ = a + r - last in
@@ -150,34 +146,34 @@ module _ {d k n l u under first a r : ℕ} (h : Down d k n (suc l) u under first
           some = omega (arith, child-inside, pos);
           fits = omega (arith, unit);
           there = omega (arith, mul-le-mul-right (d - 1) le, h .there);
-          long = le-trans (mul-le-mul-right (d - 1) mono) (h .long);
+          reach = λ i q. h .reach i (le-trans q mono);
         }
 
   -- where j of the separators are at most t, what child j finds is what the node finds
-  pub found-child : {xs : List ℕ} {t j c : ℕ} → Cut xs (nodeWord d (first + under)) ((r - 1) / u) t j → Found xs d k t (a + j * u) (min u (r - j * u)) c
-      → Found xs d k t a r c
-  found-child {xs} {t} {j} {c} cut f = record { within = f .within; counts = counts }
+  pub found-child : (at : ℕ → ℕ) {xs : List ℕ} {t j c : ℕ} → Cut xs (at (first + under)) ((r - 1) / u) t j → Found at xs d k t (a + j * u) (min u (r - j * u)) c
+      → Found at xs d k t a r c
+  found-child at {xs} {t} {j} {c} cut f = record { within = f .within; counts = counts }
     where
-      counts : (keys : List ℕ) → length keys ≡ k → Rising keys → Packed (nodeWord d) d keys xs → Between keys (d - 1) t a r → c ≡ keysUpTo keys t
+      counts : (keys : List ℕ) → length keys ≡ k → Rising keys → Packed at d keys xs → Between keys (d - 1) t a r → c ≡ keysUpTo keys t
       counts keys e rising p bt =
           f .counts keys e rising p
-          (between-child keys xs (d - 1) t a r u (nodeWord d (first + under)) j (omega (arith, h .order-low)) pos rising words cut bt)
+          (between-child keys xs (d - 1) t a r u (at (first + under)) j (omega (arith, h .order-low)) pos rising words cut bt)
         where
           at-l : (i : ℕ) → i < (r - 1) / d ^ l → i < d - 1
-              → getD xs (nodeWord d (first + under) + i) 0 ≡ getD keys ((a + d ^ l + i * d ^ l) * (d - 1) - 1) 0
+              → getD xs (at (first + under) + i) 0 ≡ getD keys ((a + d ^ l + i * d ^ l) * (d - 1) - 1) 0
           at-l i q b =
               let s : suc i * d ^ l ≤ r - 1 = le-div-iff-mul-le {k = d ^ l} {x = suc i} {y = r - 1} (rw unit at pos) .0 q in
               let m : a + d ^ l + i * d ^ l + 1 ≤ a + r = omega (arith, h .some) in
               let there : (a + d ^ l + i * d ^ l) * (d - 1) < length keys = omega (arith, mul-le-mul-right (d - 1) m, bt .there) in
               let node : innerNode d (a + d ^ l) ≡ first + under = omega (arith, rw unit at node-number) in
-              let w = separators-at (nodeWord d) d (h .order-low) keys xs (by-leaf (nodeWord d) d (h .order-low) keys xs p) l (h .block) i b in
+              let w = separators-at at d (h .order-low) keys xs (by-leaf at d (h .order-low) keys xs p) l (h .block) i b in
               rw (← node) ((rw (← h .border) at w) there)
 
           words : (i : ℕ) → i < (r - 1) / u
-              → getD xs (nodeWord d (first + under) + i) 0 ≡ getD keys ((a + u + i * u) * (d - 1) - 1) 0
+              → getD xs (at (first + under) + i) 0 ≡ getD keys ((a + u + i * u) * (d - 1) - 1) 0
           words i q = rw unit (at-l i (rw unit at q) (omega (arith, node-words down-node)))
 
 -- a level that is not 0
-pub raised : {d k n level u under first a r : ℕ} → 0 < level → Down d k n level u under first a r → Down d k n (suc (level - 1)) u under first a r
-raised {d} {k} {n} {level} {u} {under} {first} {a} {r} up h =
-    subst (λ (x : ℕ). Down d k n x u under first a r) {x = level} {y = suc (level - 1)} (omega arith) h
+pub raised : {d k : ℕ} {P : ℕ → Type 0} {level u under first a r : ℕ} → 0 < level → Down d k P level u under first a r → Down d k P (suc (level - 1)) u under first a r
+raised {d} {k} {P} {level} {u} {under} {first} {a} {r} up h =
+    subst (λ (x : ℕ). Down d k P x u under first a r) {x = level} {y = suc (level - 1)} (omega arith) h

@@ -3,10 +3,9 @@ use Prim.Native.Nat.{ℕ, _+_, _-_, _*_, _/_, _^_, _≤_, _<_, min}
 use mathlib.Core.Path.{_≡_, sym, _∙_, subst}
 use mathlib.Core.List.{List}
 use native.Mathlib.Omega.{arith}
-use native.Mathlib.Nat.{mul-le-mul-right, mul-le-mul-left, pow-zero, zero-mul, zero-add}
+use native.Mathlib.Nat.{mul-le-mul-left, pow-zero, zero-mul, zero-add}
 use lib.ListN.{length, getD}
 use Rattle.model.specs.Shape.{leavesOf}
-use Rattle.model.specs.Numbering.{nodeWord}
 use Rattle.tree.specs.Levels.{innersOver, Room}
 use Rattle.descent.specs.Ranges.{Cut, Between}
 use Rattle.descent.specs.Descent.{Leaf, Down, Found, Counted}
@@ -17,51 +16,48 @@ use Rattle.tree.proofs.Numbers.{leaf-in, leaf-closed, inners-le}
 use Rattle.tree.proofs.Packings.{by-leaf, leaves-at}
 
 -- ---- a leaf
-module _ {d k n first a : ℕ} (h : Leaf d k n first a) where
+module _ {d k : ℕ} {P : ℕ → Type 0} {first a : ℕ} (h : Leaf d k P first a) where
   pub leaf-few : a ≤ 65536
   leaf-few =
       let one : 1 ≤ d - 1 = omega (arith, h .order-low) in
       omega (arith, mul-le-mul-left a one, h .there, h .few)
 
-  pub leaf-long : nodeWord d first + (d - 1) ≤ n
-  leaf-long = rw (h .number) (omega (arith, mul-le-mul-right (d - 1) (leaf-in d (h .order-low) a (a + 1) (omega arith)), h .long))
-
   pub leaf-number : first ≤ 131072
   leaf-number = omega (arith, h .number, leaf-closed d (h .order-low) a, inners-le d (h .order-low) a, leaf-few)
 
-  pub found-leaf : {xs : List ℕ} {t j : ℕ} → Cut xs (nodeWord d first) (min (d - 1) (k - a * (d - 1))) t j → Found xs d k t a 1 (a * (d - 1) + j)
-  found-leaf {xs} {t} {j} cut = record {
+  pub found-leaf : (at : ℕ → ℕ) {xs : List ℕ} {t j : ℕ} → Cut xs (at first) (min (d - 1) (k - a * (d - 1))) t j → Found at xs d k t a 1 (a * (d - 1) + j)
+  found-leaf at {xs} {t} {j} cut = record {
     within = omega (arith, cut .upto, h .there);
     counts = λ keys e rising p bt.
-        sym (count-in-leaf keys xs (d - 1) t a (nodeWord d first) j (omega (arith, h .order-low)) rising
+        sym (count-in-leaf keys xs (d - 1) t a (at first) j (omega (arith, h .order-low)) rising
         (λ i l s.
-        let at-leaf = leaves-at (nodeWord d) d (h .order-low) keys xs (by-leaf (nodeWord d) d (h .order-low) keys xs p) a i l s in
-        subst (λ (x : ℕ). getD xs (nodeWord d x + i) 0 ≡ getD keys (a * (d - 1) + i) 0) (sym (h .number)) at-leaf)
-        (subst (λ (x : ℕ). Cut xs (nodeWord d first) (min (d - 1) (x - a * (d - 1))) t j) (sym e) cut) bt);
+        let at-leaf = leaves-at at d (h .order-low) keys xs (by-leaf at d (h .order-low) keys xs p) a i l s in
+        subst (λ (x : ℕ). getD xs (at x + i) 0 ≡ getD keys (a * (d - 1) + i) 0) (sym (h .number)) at-leaf)
+        (subst (λ (x : ℕ). Cut xs (at first) (min (d - 1) (x - a * (d - 1))) t j) (sym e) cut) bt);
   }
 
 -- level 0 is one leaf
-module _ {d k n u under first a r : ℕ} (h : Down d k n 0 u under first a r) where
+module _ {d k : ℕ} {P : ℕ → Type 0} {u under first a r : ℕ} (h : Down d k P 0 u under first a r) where
   pub down-one : r ≡ 1
   down-one = omega (arith, h .fits, pow-zero d, h .some)
 
-  pub down-leaf : Leaf d k n first a
+  pub down-leaf : Leaf d k P first a
   down-leaf = record {
     order-low = h .order-low;
     order-high = h .order-high;
     few = h .few;
     number = h .number;
     there = omega (arith, rw down-one at (h .there));
-    long = rw down-one at (h .long);
+    reach = h .reach first (omega (arith, h .number, leaf-in d (h .order-low) a (a + r) (omega (arith, h .some))));
   }
 
-  pub found-one : {xs : List ℕ} {t c : ℕ} → Found xs d k t a 1 c → Found xs d k t a r c
+  pub found-one : {at : ℕ → ℕ} {xs : List ℕ} {t c : ℕ} → Found at xs d k t a 1 c → Found at xs d k t a r c
   found-one f = rw down-one f
 
 -- ---- the whole tree
-module _ {d k n : ℕ} (h : Room d k n) (p : 0 < k) where
+module _ {d k : ℕ} {P : ℕ → Type 0} (h : Room d k P) (p : 0 < k) where
   pub down-top : {level u under : ℕ} → u ≡ d ^ level / d → under ≡ innersOver d level → leavesOf d k ≤ d ^ level
-      → Down d k n level u under 0 0 (leavesOf d k)
+      → Down d k P level u under 0 0 (leavesOf d k)
   down-top {level} e f wide =
       record {
         order-low = h .order-low;
@@ -75,7 +71,7 @@ module _ {d k n : ℕ} (h : Room d k n) (p : 0 < k) where
         some = leaf-there d k 0 (h .order-low) (omega arith);
         fits = wide;
         there = rw zero-add (leaves-low d k (h .order-low));
-        long = rw zero-add (h .long);
+        reach = rw zero-add (h .reach);
       }
 
   between-all : (keys : List ℕ) (t : ℕ) → length keys ≡ k → Between keys (d - 1) t 0 (leavesOf d k)
@@ -86,9 +82,9 @@ module _ {d k n : ℕ} (h : Room d k n) (p : 0 < k) where
     above = λ i l q. absurd (omega (arith, leaves-high d k (h .order-low)));
   }
 
-  pub counted-all : {xs : List ℕ} {t c : ℕ} → Found xs d k t 0 (leavesOf d k) c → Counted xs d k t c
+  pub counted-all : {at : ℕ → ℕ} {xs : List ℕ} {t c : ℕ} → Found at xs d k t 0 (leavesOf d k) c → Counted at xs d k t c
   counted-all {t = t} f =
       record { packed = λ keys len rising pk. f .counts keys len rising pk (between-all keys t len); within = f .within }
 
-pub counted-none : {xs : List ℕ} {d k t : ℕ} → k ≡ 0 → Counted xs d k t 0
+pub counted-none : {at : ℕ → ℕ} {xs : List ℕ} {d k t : ℕ} → k ≡ 0 → Counted at xs d k t 0
 counted-none {t = t} e = record { packed = λ keys len rising pk. sym (count-none keys t (len ∙ e)); within = omega arith }

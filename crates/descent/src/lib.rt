@@ -3,7 +3,7 @@
 ghost use mathlib.Core.Path.{_≡_};
 ghost use Prim.Native.Nat.{_+_, _-_, _*_, _/_, _≤_, _<_, _^_};
 ghost use lib.ListN.{length};
-ghost use Rattle.model.specs.Numbering.{nodeWord};
+ghost use Rattle.tree.specs.Places.{placeOf, Reached};
 ghost use Rattle.tree.specs.Levels.{innersOver, Room};
 ghost use Rattle.descent.specs.Ranges.{Bracket, Cut};
 ghost use Rattle.descent.specs.Descent.{Leaf, Node, Down, Found, Counted, childNode};
@@ -48,13 +48,23 @@ fn cut(index: &[u64], at: usize, c: usize, t: u64) -> usize
 }
 
 // Of leaf a, whose number is first: the keys before it, and those of its own that are at most t.
-fn in_leaf(index: &[u64], d: u32, k: u32, first: NodeNumber, a: u32, t: u64) -> u32
-    requires { ⌜ Leaf d k (length (now index)) (first .0) a ⌝ }
-    ensures { λ c. ⌜ Found (now (index .entry)) d k t a 1 c ⌝ }
+fn in_leaf(
+    index: &[u64],
+    extent: u32,
+    starts: &[u64],
+    d: u32,
+    k: u32,
+    first: NodeNumber,
+    a: u32,
+    t: u64,
+) -> u32
+    requires { ⌜ Leaf d k (Reached d extent (now starts) (length (now index))) (first .0) a ⌝ }
+    ensures { λ c. ⌜ Found (placeOf d extent (now (starts .entry))) (now (index .entry)) d k t a 1 c ⌝ }
 {
     let before = a * (d - 1);
     let used = tree::at_most(d - 1, k - before);
-    let j = cut(index, tree::node_word(d, first), used as usize, t);
+    let at = tree::node_word(extent, starts, d, first);
+    let j = cut(index, at, used as usize, t);
     before + (j as u32)
 }
 
@@ -77,15 +87,25 @@ fn words_used(d: u32, u: u32, r: u32) -> u32
 
 // Of the node over r leaves from the one with the number first on: how many separators are at most t. Where the
 // right edge skips the level there is no node, and none.
-fn in_node(index: &[u64], d: u32, u: u32, under: u32, first: NodeNumber, r: u32, t: u64) -> u32
-    requires { ⌜ Node d (length (now index)) u under (first .0) r ⌝ }
-    ensures { λ j. ⌜ Cut (now (index .entry)) (nodeWord d (first .0 + under)) ((r - 1) / u) t j ⌝ }
+fn in_node(
+    index: &[u64],
+    extent: u32,
+    starts: &[u64],
+    d: u32,
+    u: u32,
+    under: u32,
+    first: NodeNumber,
+    r: u32,
+    t: u64,
+) -> u32
+    requires { ⌜ Node d (Reached d extent (now starts) (length (now index))) u under (first .0) r ⌝ }
+    ensures { λ j. ⌜ Cut (now (index .entry)) (placeOf d extent (now (starts .entry)) (first .0 + under)) ((r - 1) / u) t j ⌝ }
 {
     if r <= u {
         return 0;
     }
     let c = words_used(d, u, r);
-    let at = tree::node_word(d, NodeNumber(first.0 + under));
+    let at = tree::node_word(extent, starts, d, NodeNumber(first.0 + under));
     cut(index, at, c as usize, t) as u32
 }
 
@@ -111,9 +131,11 @@ fn unit_below(d: u32, level: u32, u: u32) -> u32
 }
 
 // The number of the k keys that are at most t, found from the top of the leaves a to a + r - 1 down. It takes the
-// slice by reference: the compiler then makes a loop of the calls.
+// slices by reference: the compiler then makes a loop of the calls.
 fn descend(
     index: &&[u64],
+    extent: u32,
+    starts: &&[u64],
     d: u32,
     k: u32,
     level: u32,
@@ -124,19 +146,21 @@ fn descend(
     r: u32,
     t: u64,
 ) -> u32
-    requires { ⌜ Down d k (length (now (now index))) level u under (first .0) a r ⌝ }
-    ensures { λ c. ⌜ Found (now (now (index .entry))) d k t a r c ⌝ }
+    requires { ⌜ Down d k (Reached d extent (now (now starts)) (length (now (now index)))) level u under (first .0) a r ⌝ }
+    ensures { λ c. ⌜ Found (placeOf d extent (now (now (starts .entry)))) (now (now (index .entry))) d k t a r c ⌝ }
 {
     if level == 0 {
-        return in_leaf(*index, d, k, first, a, t);
+        return in_leaf(*index, extent, *starts, d, k, first, a, t);
     }
-    let j = in_node(*index, d, u, under, first, r, t);
+    let j = in_node(*index, extent, *starts, d, u, under, first, r, t);
     let child = child_node(first, under, j);
     let past = j * u;
     let left = tree::at_most(u, r - past);
     let next = unit_below(d, level, u);
     descend(
         index,
+        extent,
+        starts,
         d,
         k,
         level - 1,
@@ -176,9 +200,9 @@ fn top_of(d: u32, n: u32) -> Top
 }
 
 // How many of the k keys are at most t.
-pub fn keys_up_to(index: &[u64], d: usize, k: usize, t: u64) -> u32
-    requires { ⌜ Room d k (length (now index)) ⌝ }
-    ensures { λ c. ⌜ Counted (now (index .entry)) d k t c ⌝ }
+pub fn keys_up_to(index: &[u64], extent: u32, starts: &[u64], d: usize, k: usize, t: u64) -> u32
+    requires { ⌜ Room d k (Reached d extent (now starts) (length (now index))) ⌝ }
+    ensures { λ c. ⌜ Counted (placeOf d extent (now (starts .entry))) (now (index .entry)) d k t c ⌝ }
 {
     if k == 0 {
         return 0;
@@ -188,6 +212,8 @@ pub fn keys_up_to(index: &[u64], d: usize, k: usize, t: u64) -> u32
     let top = top_of(order, n);
     descend(
         &index,
+        extent,
+        &starts,
         order,
         k as u32,
         top.level,

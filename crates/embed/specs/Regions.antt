@@ -5,7 +5,8 @@ use denote.Ref.{now}
 use Rattle.model.specs.declared.Numbers.{Numbers}
 use Rattle.model.specs.declared.Entry.{Entry}
 use Rattle.model.specs.Memory.{Memory, State}
-use Rattle.numbered.specs.Lent.{Region, storeLent, memoryLeft}
+use Rattle.model.specs.Regions.{Region}
+use Rattle.numbered.specs.Lent.{storeLent, memoryLeft}
 
 abbrev pub asLent : Numbers → (log index current : Region ℕ) → Region Entry → Region ℕ → State
 asLent s log index current entries areas = storeLent s log index current (now (entries .entry)) (now (areas .entry))

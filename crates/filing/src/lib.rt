@@ -2,13 +2,14 @@
 // and goes by value; the areas are written where they lie. A refused call gives numbers and catalogue back as they were.
 ghost use mathlib.Core.Path.{_≡_};
 ghost use mathlib.Core.List.{List};
-ghost use Prim.Native.Nat.{_+_, _*_, _≤_, _<_};
+ghost use Prim.Native.Nat.{ℕ, _+_, _*_, _≤_, _<_};
 ghost use lib.ListN.{length};
 ghost use Rattle.model.specs.declared.Entry.{Entry};
 ghost use Rattle.model.specs.declared.Verdict.the-variants as verdict;
 ghost use Rattle.model.specs.Answers.{verdictOutcome, dropMarkedOutcome};
 ghost use Rattle.model.specs.Files.{withCount, keepOf, dropOf, dropMarkedOf};
 ghost use Rattle.model.specs.Promises.{storeOf};
+ghost use Rattle.tree.specs.Places.{Seen, stretchLent};
 ghost use Rattle.catalogue.specs.Entries.{staysWhen};
 ghost use Rattle.catalogue.specs.Files.{byValue, writtenBack};
 ghost use Rattle.tables.specs.Ways.{Ready};
@@ -70,23 +71,39 @@ fn keep_file(
     s: Numbers,
     log: &[u8],
     index: &[u64],
+    extent: u32,
+    starts: &[u64],
+    words: usize,
     current: &[u8],
     c: Catalogue,
     areas: &mut [u8],
     t: u64,
     mark: u32,
 ) -> Catalogue
-    requires { ⌜ Ready s (length (now log)) (length (now index)) t (8 * s .limit) ⌝ }
+    requires { ⌜ Ready s (length (now log)) words t (8 * s .limit) ⌝ }
+    requires { ⌜ Seen (s .order) extent (now starts) words (length (now index)) ⌝ }
     requires { ⌜ s .files < 16 ⌝ }
     requires { ⌜ 8 * s .limit * (s .files + 1) ≤ length (now areas) ⌝ }
     ensures { λ r. ⌜ ((catalogue : List Entry) → c ≡ byValue catalogue → s .files < length catalogue
-        → Keeping (storeOf s (now (log .entry)) (now (index .entry)) (now (current .entry)) catalogue (now (areas .entry))) t mark
-        (storeOf (withCount s (s .files + 1)) (now (log .entry)) (now (index .entry)) (now (current .entry)) (writtenBack catalogue r) (now (areas .exit)))) ⌝ }
+        → Keeping (storeOf s (now (log .entry)) (stretchLent (s .order) extent starts words index) (now (current .entry)) catalogue (now (areas .entry))) t mark
+        (storeOf (withCount s (s .files + 1)) (now (log .entry)) (stretchLent (s .order) extent starts words index) (now (current .entry)) (writtenBack catalogue r) (now (areas .exit)))) ⌝ }
 {
     let files = s.files as usize;
     let size = 8 * (s.limit as usize);
     let mut scratch = [0u8; 8192];
-    let w = tables::work_out(s, log, index, current, areas, c, t, &mut scratch[0..size]);
+    let w = tables::work_out(
+        s,
+        log,
+        index,
+        extent,
+        starts,
+        words,
+        current,
+        areas,
+        c,
+        t,
+        &mut scratch[0..size],
+    );
     let at = catalogue::place(c, files, t);
     areas::put_area(areas, s.limit, files, at, &scratch[0..size]);
     catalogue::inserted(
@@ -106,16 +123,20 @@ pub fn keep(
     s: Numbers,
     log: &[u8],
     index: &[u64],
+    extent: u32,
+    starts: &[u64],
+    words: usize,
     current: &[u8],
     c: Catalogue,
     areas: &mut [u8],
     t: u64,
     mark: u32,
 ) -> Filed
-    ensures { λ r. ⌜ Files (s .files + 1) s (now (log .entry)) (now (index .entry)) (now (current .entry)) c (now (areas .entry))
+    requires { ⌜ Seen (s .order) extent (now starts) words (length (now index)) ⌝ }
+    ensures { λ r. ⌜ Files (s .files + 1) s (now (log .entry)) (stretchLent (s .order) extent starts words index) (now (current .entry)) c (now (areas .entry))
         (verdictOutcome (r .verdict)) (r .numbers) (r .catalogue) (now (areas .exit)) (λ st. keepOf st t mark) ⌝ }
 {
-    if limits::is_sound(s, log, index.len(), current.len(), c.lent, areas.len()) {} else {
+    if limits::is_sound(s, log, words, current.len(), c.lent, areas.len()) {} else {
         return refused(s, c, Refusal::Header);
     }
     if s.last < t {
@@ -134,7 +155,19 @@ pub fn keep(
     if files < catalogue::capacity(s.limit, c.lent, areas.len()) {} else {
         return refused(s, c, Refusal::CatalogueFull);
     }
-    let with_it = keep_file(s, log, index, current, c, areas, t, mark);
+    let with_it = keep_file(
+        s,
+        log,
+        index,
+        extent,
+        starts,
+        words,
+        current,
+        c,
+        areas,
+        t,
+        mark,
+    );
     Filed {
         numbers: counted(s, s.files + 1),
         verdict: Verdict::Accepted,
@@ -155,20 +188,20 @@ fn let_go(s: Numbers, c: Catalogue, areas: &mut [u8], going: Going) -> Left
     catalogue::closed_up(c, files, going)
 }
 
-// Drops the count file of time t.
+// Drops the count file of time t. It looks at no node: of the index it is told how many words it has.
 pub fn drop(
     s: Numbers,
     log: &[u8],
-    index: &[u64],
+    words: usize,
     current: &[u8],
     c: Catalogue,
     areas: &mut [u8],
     t: u64,
 ) -> Filed
-    ensures { λ r. ⌜ Files (s .files) s (now (log .entry)) (now (index .entry)) (now (current .entry)) c (now (areas .entry))
-        (verdictOutcome (r .verdict)) (r .numbers) (r .catalogue) (now (areas .exit)) (λ st. dropOf st t) ⌝ }
+    ensures { λ r. ⌜ ((index : List ℕ) → length index ≡ words → Files (s .files) s (now (log .entry)) index (now (current .entry)) c (now (areas .entry))
+        (verdictOutcome (r .verdict)) (r .numbers) (r .catalogue) (now (areas .exit)) (λ st. dropOf st t)) ⌝ }
 {
-    if limits::is_sound(s, log, index.len(), current.len(), c.lent, areas.len()) {} else {
+    if limits::is_sound(s, log, words, current.len(), c.lent, areas.len()) {} else {
         return refused(s, c, Refusal::Header);
     }
     let files = s.files as usize;
@@ -188,16 +221,16 @@ pub fn drop(
 pub fn drop_marked(
     s: Numbers,
     log: &[u8],
-    index: &[u64],
+    words: usize,
     current: &[u8],
     c: Catalogue,
     areas: &mut [u8],
     mark: u32,
 ) -> Cleared
-    ensures { λ r. ⌜ Files (s .files) s (now (log .entry)) (now (index .entry)) (now (current .entry)) c (now (areas .entry))
-        (dropMarkedOutcome (r .answer)) (r .numbers) (r .catalogue) (now (areas .exit)) (λ st. dropMarkedOf st mark) ⌝ }
+    ensures { λ r. ⌜ ((index : List ℕ) → length index ≡ words → Files (s .files) s (now (log .entry)) index (now (current .entry)) c (now (areas .entry))
+        (dropMarkedOutcome (r .answer)) (r .numbers) (r .catalogue) (now (areas .exit)) (λ st. dropMarkedOf st mark)) ⌝ }
 {
-    if limits::is_sound(s, log, index.len(), current.len(), c.lent, areas.len()) {} else {
+    if limits::is_sound(s, log, words, current.len(), c.lent, areas.len()) {} else {
         return Cleared {
             numbers: s,
             answer: DropMarkedAnswer::Refused(Refusal::Header),

@@ -1,17 +1,15 @@
--- What is at most the capacity of a catalogue; question 1 as facts, and in two parts. Assumes nothing.
+-- What is at most the capacity of a catalogue; question 1 as facts. Assumes nothing.
 use Prim.Native.Nat.{ℕ, _+_, _*_, _/_, _≤_, _<_, min}
-use mathlib.Core.Path.{_≡_, refl, sym}
-use mathlib.Core.List.{List}
-use mathlib.Core.Bool.{Bool, true, false, _&&_, and-true, and-false}
+use mathlib.Core.Path.{_≡_}
+use mathlib.Core.Bool.{false}
 use native.Mathlib.Omega.{arith}
 use native.Mathlib.Nat.{le-div-iff-mul-le, mul-comm}
-use lib.ListN.{length}
 use lib.Dec.{leb}
 use borrow.Author.Tests.{lt-leb}
 use Rattle.model.specs.declared.Numbers.{Numbers}
 use Rattle.model.specs.Pages.{indexNeed}
-use Rattle.model.specs.Memory.{numbersInRange, headerIs, logLong, indexLong, tableLong, capacity, fits}
-use Rattle.limits.specs.Fit.{InRange, Fit, fitsButIndex}
+use Rattle.model.specs.Memory.{capacity}
+use Rattle.limits.specs.Fit.{InRange, Fit}
 
 module _ (R entries areas n : ℕ) (h : n ≤ capacity R entries areas) where
   within : n ≤ min 16 (min entries (areas / (8 * R)))
@@ -48,17 +46,3 @@ fit-of s log index table entries areas ranges long-log long-index long-table few
       files-lent = capacity-entries (s .limit) entries areas (s .files) few-files;
       areas-long = capacity-areas (s .limit) entries areas (s .files) few-files (ranges .limit-low);
     }
-
--- ---- the index apart
-
-and-last : (x i t l f : Bool) → (x && i && t && l && f) ≡ (x && t && l && f && i)
-and-last false i t l f = refl
-and-last true true t l f = sym (and-true (t && l && f))
-and-last true false t l f = sym (and-false (t && l && f))
-
-pub fits-parts : (s : Numbers) (log : List ℕ) (index table entries areas : ℕ)
-    → fits s log index table entries areas ≡ (fitsButIndex s log table entries areas && indexLong (s .order) (s .page) (s .records) index)
-unfolding fits fitsButIndex
-fits-parts s log index table entries areas =
-    and-last (numbersInRange s && logLong (s .records) (length log) && headerIs s log) (indexLong (s .order) (s .page) (s .records) index)
-    (tableLong (s .limit) table) (leb (s .live) (s .limit)) (leb (s .files) (capacity (s .limit) entries areas))

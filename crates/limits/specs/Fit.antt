@@ -1,14 +1,11 @@
 -- What a yes to question 1, and to the questions of room, tells a caller, as facts that arithmetic can use.
 -- The questions themselves stand in model/specs/Memory and Changes. Assumes nothing.
 use Prim.Native.Nat.{ℕ, _+_, _*_, _≤_}
-use mathlib.Core.List.{List}
 use mathlib.Core.Bool.{Bool, _&&_}
-use lib.ListN.{length}
-use lib.Dec.{leb}
 use Rattle.model.specs.declared.Numbers.{Numbers}
 use Rattle.model.specs.Settings.{recordsInRange}
 use Rattle.model.specs.Pages.{indexNeed}
-use Rattle.model.specs.Memory.{numbersInRange, headerIs, logLong, indexLong, tableLong, capacity}
+use Rattle.model.specs.Memory.{indexLong, capacity}
 
 -- d, N, R and n are within their limits
 pub record InRange (s : Numbers) : Type 0 where
@@ -31,14 +28,6 @@ pub record Fit (s : Numbers) (log index table entries areas : ℕ) : Type 0 wher
   pub files-sixteen : s .files ≤ 16
   pub files-lent : s .files ≤ entries
   pub areas-long : 8 * s .limit * s .files ≤ areas
-
--- ---- the index apart
-
--- question 1 but for the index
-unfoldable pub fitsButIndex : Numbers → (log : List ℕ) (table entries areas : ℕ) → Bool
-fitsButIndex s log table entries areas =
-    numbersInRange s && logLong (s .records) (length log) && headerIs s log
-    && tableLong (s .limit) table && leb (s .live) (s .limit) && leb (s .files) (capacity (s .limit) entries areas)
 
 -- question 11 for `more` records after those there, and no where the limit has no space for them (question 10)
 unfoldable pub indexRoom : Numbers → (more index : ℕ) → Bool

@@ -20,7 +20,7 @@ use Rattle.model.specs.Timeslice.{timeslice}
 use Rattle.model.specs.Legal.{legal, lastFrom, lastTime}
 use Rattle.model.specs.Pages.{indexNeed}
 use Rattle.model.specs.Tree.{withTree}
-use Rattle.model.specs.Memory.{State, noEntry, logOf, rowsNow, keysOf, sound, fits, numbersInRange, logLong, indexLong, tableLong, headerIs, capacity, capacityOf}
+use Rattle.model.specs.Memory.{State, noEntry, logOf, rowsNow, keysOf, sound, fitsButIndex, fits, numbersInRange, logLong, indexLong, tableLong, headerIs, capacity, capacityOf}
 use Rattle.model.specs.Files.{File, filesOf}
 use Rattle.model.specs.Audit.{auditOf, logAudited, tableAudited, indexAudited, filesAudited, entriesZero, restAudited, Audited}
 use Rattle.model.proofs.Compare.{and-left, and-right, and-both}
@@ -115,7 +115,7 @@ test-of-files st before (f ∷ fs) h =
 -- ---- question 1
 
 pub limits-of-sound : (st : State) → sound st ≡ true → InLimits st × (headerIs (st .numbers) (st .memory .log) ≡ true)
-unfolding fits numbersInRange orderInRange pageSizeInRange rowLimitInRange recordsInRange logLong indexLong tableLong
+unfolding fits fitsButIndex numbersInRange orderInRange pageSizeInRange rowLimitInRange recordsInRange logLong indexLong tableLong
 limits-of-sound st h =
     let s = st .numbers in
     let m = st .memory in
@@ -133,10 +133,10 @@ limits-of-sound st h =
     let live = leb (s .live) (s .limit) in
     let files = leb (s .files) (capacityOf (s .limit) m) in
     let header = headerIs s (m .log) in
-    let h6 = and-left (numbers && log && header && index && table && live) files h in
-    let h5 = and-left (numbers && log && header && index && table) live h6 in
-    let h4 = and-left (numbers && log && header && index) table h5 in
-    let h3 = and-left (numbers && log && header) index h4 in
+    let h6 = and-left (numbers && log && header && table && live && files) index h in
+    let h5 = and-left (numbers && log && header && table && live) files h6 in
+    let h4 = and-left (numbers && log && header && table) live h5 in
+    let h3 = and-left (numbers && log && header) table h4 in
     let h2 = and-left (numbers && log) header h3 in
     let h1 = and-left numbers log h2 in
     let three = and-left ((d1 && d2) && (n1 && n2) && (r1 && r2)) c1 h1 in
@@ -153,9 +153,9 @@ limits-of-sound st h =
         limit-high = leb-true _ _ (and-right r1 r2 rs);
         records-few = leb-true _ _ (and-right ((d1 && d2) && (n1 && n2) && (r1 && r2)) c1 h1);
         log-long = leb-true _ _ (and-right numbers log h2);
-        index-long = leb-true _ _ (and-right (numbers && log && header) index h4);
-        table-long = leb-true _ _ (and-right (numbers && log && header && index) table h5);
-        files-few = leb-true _ _ (and-right (numbers && log && header && index && table && live) files h);
+        index-long = leb-true _ _ (and-right (numbers && log && header && table && live && files) index h);
+        table-long = leb-true _ _ (and-right (numbers && log && header) table h4);
+        files-few = leb-true _ _ (and-right (numbers && log && header && table && live) files h6);
       },
       and-right (numbers && log) header h3,
     )
@@ -219,7 +219,7 @@ module _ (st : State) (f : AuditedFacts st) where
       by false e = refl
 
   pub sound-of-facts : sound st ≡ true
-  unfolding fits numbersInRange orderInRange pageSizeInRange rowLimitInRange recordsInRange logLong indexLong tableLong
+  unfolding fits fitsButIndex numbersInRange orderInRange pageSizeInRange rowLimitInRange recordsInRange logLong indexLong tableLong
   sound-of-facts =
       let l = f .limits in
       rw (
@@ -232,10 +232,10 @@ module _ (st : State) (f : AuditedFacts st) where
         le-leb _ _ (l .records-few),
         le-leb _ _ (l .log-long),
         header-is-true,
-        le-leb _ _ (l .index-long),
         le-leb _ _ (l .table-long),
         le-leb _ _ live-few,
         le-leb _ _ (l .files-few),
+        le-leb _ _ (l .index-long),
       )
 
   pub audited-of-facts : Audited st

@@ -25,7 +25,7 @@ use Rattle.model.specs.Shape.{valuationUpTo, cofactorUpTo, valuation, co
 use Rattle.model.specs.Numbering.{opened, nodes, leafNode}
 use Rattle.model.specs.Tree.{keysUpTo}
 use Rattle.model.specs.Marks.{goes, isMark}
-use Rattle.model.specs.Memory.{State, state, noEntry, capacity, headerIs, numbersInRange, logLong, indexLong, tableLong, fits}
+use Rattle.model.specs.Memory.{State, state, noEntry, capacity, headerIs, numbersInRange, logLong, indexLong, tableLong, fitsButIndex, fits}
 use Rattle.model.specs.Outset.{filesFrom, latest, earliest, chooseBy}
 use Rattle.model.specs.NetChange.{missing, placed, arranged, netChange, changeBytes, changesBytes, netChangeBytes}
 use Rattle.model.specs.Queries.{answeredTime, positionOf, Written, tableOf, rowsPart, Viewed, viewOf, Netted, netOf}
@@ -38,7 +38,7 @@ use Rattle.model.specs.Calls.{answerOf}
 use Rattle.model.specs.LateTimes.{saidRefusedBy}
 
 unfoldable pub computing : Unit {0}
-unfolding number bytes same firstNo orderInRange pageSizeInRange rowLimitInRange recordsInRange recordBytes recordsBytes recordIn records headerBytes lacks hasRow countOf putIn without rowBytes rowsBytes tableBytes named table upTo timeslice pageTimesFrom valuationUpTo cofactorUpTo valuation cofactor opens opened nodes leafNode keysUpTo capacity headerIs numbersInRange logLong indexLong tableLong fits filesFrom latest earliest chooseBy missing placed arranged netChange changeBytes changesBytes netChangeBytes answeredTime positionOf tableOf rowsPart viewOf netOf filesIn areasBytes isKept fileIn keepOf goes isMark inserted deleted unitsAt difference unitsOf differenceOf formed lastFrom isUpdate inTime allowed legalNext legalAfter logAudited tableAudited indexAudited filesAudited entriesZero restAudited auditOf refusedBy answerOf saidRefusedBy
+unfolding number bytes same firstNo orderInRange pageSizeInRange rowLimitInRange recordsInRange recordBytes recordsBytes recordIn records headerBytes lacks hasRow countOf putIn without rowBytes rowsBytes tableBytes named table upTo timeslice pageTimesFrom valuationUpTo cofactorUpTo valuation cofactor opens opened nodes leafNode keysUpTo capacity headerIs numbersInRange logLong indexLong tableLong fitsButIndex fits filesFrom latest earliest chooseBy missing placed arranged netChange changeBytes changesBytes netChangeBytes answeredTime positionOf tableOf rowsPart viewOf netOf filesIn areasBytes isKept fileIn keepOf goes isMark inserted deleted unitsAt difference unitsOf differenceOf formed lastFrom isUpdate inTime allowed legalNext legalAfter logAudited tableAudited indexAudited filesAudited entriesZero restAudited auditOf refusedBy answerOf saidRefusedBy
 computing = tt
 
 -- ---- the store

@@ -16,7 +16,7 @@ use Rattle.codec.proofs.PartLaws.{length-put, put-part}
 use Rattle.model.specs.declared.Numbers.{Numbers}
 use Rattle.model.specs.declared.Entry.{Entry}
 use Rattle.model.specs.Records.{headerBytes}
-use Rattle.model.specs.Memory.{Memory, State, state, sound, fits, numbersInRange, logLong, indexLong, tableLong, headerIs, capacity, capacityOf}
+use Rattle.model.specs.Memory.{Memory, State, state, sound, fitsButIndex, fits, numbersInRange, logLong, indexLong, tableLong, headerIs, capacity, capacityOf}
 use Rattle.model.specs.Files.{File, filesOf, noFile, areasBytes, entryOf, withFiles, withCount, staying, closedUp, reduced}
 use Rattle.model.proofs.Compare.{and-left, and-right, and-both}
 use Rattle.model.proofs.AuditLaws.{capacity-entries, areas-within, limits-of-sound}
@@ -50,12 +50,14 @@ closed-again R n k fs h l =
 -- it asks of the files only that they are no more than the capacity
 fits-fewer : (s : Numbers) (log : List ℕ) (index table entries areas k : ℕ) → k ≤ s .files → fits s log index table entries areas ≡ true
     → fits (withCount s k) log index table entries areas ≡ true
-unfolding fits headerIs headerBytes numbersInRange
+unfolding fits fitsButIndex headerIs headerBytes numbersInRange
 fits-fewer s log index table entries areas k l h =
-    let others : Bool = numbersInRange s && logLong (s .records) (length log) && headerIs s log && indexLong (s .order) (s .page) (s .records) index && tableLong (s .limit) table && leb (s .live) (s .limit) in
+    let others : Bool = numbersInRange s && logLong (s .records) (length log) && headerIs s log && tableLong (s .limit) table && leb (s .live) (s .limit) in
     let room = leb (s .files) (capacity (s .limit) entries areas) in
-    let most : s .files ≤ capacity (s .limit) entries areas = leb-true _ _ (and-right others room h) in
-    and-both (and-left others room h) (le-leb k (capacity (s .limit) entries areas) (omega arith))
+    let long = indexLong (s .order) (s .page) (s .records) index in
+    let but = and-left (others && room) long h in
+    let most : s .files ≤ capacity (s .limit) entries areas = leb-true _ _ (and-right others room but) in
+    and-both (and-both (and-left others room but) (le-leb k (capacity (s .limit) entries areas) (omega arith))) (and-right (others && room) long h)
 
 -- ---- a removal
 

@@ -84,12 +84,17 @@ indexLong d N n len = leb (indexNeed d N n) len
 unfoldable pub tableLong : ℕ → ℕ → Bool
 tableLong R len = leb (8 * R) len
 
--- question 1 of every call but fresh store, opening and audit; of catalogue and areas it asks the lengths
+-- question 1 of every call but fresh store, opening and audit, the index's length left out; of catalogue and areas it asks
+-- the lengths
+unfoldable pub fitsButIndex : Numbers → List ℕ → ℕ → ℕ → ℕ → Bool
+fitsButIndex s log table entries areas =
+    numbersInRange s && logLong (s .records) (length log) && headerIs s log && tableLong (s .limit) table
+    && leb (s .live) (s .limit) && leb (s .files) (capacity (s .limit) entries areas)
+
+-- question 1
 unfoldable pub fits : Numbers → List ℕ → ℕ → ℕ → ℕ → ℕ → Bool
 fits s log index table entries areas =
-    numbersInRange s && logLong (s .records) (length log) && headerIs s log
-    && indexLong (s .order) (s .page) (s .records) index && tableLong (s .limit) table
-    && leb (s .live) (s .limit) && leb (s .files) (capacity (s .limit) entries areas)
+    fitsButIndex s log table entries areas && indexLong (s .order) (s .page) (s .records) index
 
 abbrev pub sound : State → Bool
 sound st =

@@ -25,7 +25,7 @@ abbrev pub nodesOf : ℕ → ℕ → ℕ
 nodesOf d k = nodes d (leavesOf d k)
 
 abbrev pub indexWords : ℕ → ℕ → ℕ
-indexWords d k = nodesOf d k * (d - 1)
+indexWords d k = nodeWord d (nodesOf d k)
 
 -- ---- an index, node k standing from word `at k` on
 

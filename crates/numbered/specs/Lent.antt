@@ -3,16 +3,12 @@
 use Prim.Native.Nat.{ℕ}
 use mathlib.Core.List.{List}
 use lib.ListN.{replicate}
-use denote.Ref.{RefT, now}
-use denote.Triple.Both.{Both}
+use denote.Ref.{now}
 use Rattle.codec.specs.Parts.{put}
 use Rattle.model.specs.declared.Numbers.{Numbers}
 use Rattle.model.specs.declared.Entry.{Entry}
+use Rattle.model.specs.Regions.{Region}
 use Rattle.model.specs.Memory.{Memory, State, state, noEntry}
-
--- a lent region, as a clause sees it
-abbrev pub Region : Type 0 → Type 0
-Region X = Both (RefT (List X)) (RefT (List X))
 
 -- the memory of these lists
 abbrev pub memoryOf : (log index table : List ℕ) → List Entry → List ℕ → Memory

@@ -1,5 +1,5 @@
 // Each call with its answer in numbers: what C and Rust see, since no enum crosses to them. The catalogue comes by value or
-// as its length; `embed` lends it as a slice of entries.
+// as its length; `embed` lends it as a slice of entries. The index is one stretch: no extents, and no starts.
 ghost use mathlib.Core.Path.{_≡_};
 ghost use mathlib.Core.List.{List};
 ghost use Prim.Native.Nat.{ℕ, _+_, _≤_};
@@ -66,7 +66,9 @@ pub fn open(
         → StartCrossed (r .change) (memoryLeft log index current (cleared (r .clears) catalogue) area)
         (openOf (memoryLent log index current catalogue area))) ⌝ }
 {
-    answer::begin(opening::open(log, index, current, entries, areas))
+    let none = [0u64; 1];
+    let words = index.len();
+    answer::begin(opening::open(log, index, 0, &none, words, current, entries, areas))
 }
 
 pub fn insert(
@@ -85,7 +87,23 @@ pub fn insert(
         (memoryLeft log index current catalogue area)
         (insertOf (storeLent s log index current catalogue area) t article count)) ⌝ }
 {
-    answer::append_out(appending::insert(s, log, index, current, entries, areas, t, article, count))
+    let none = [0u64; 1];
+    let words = index.len();
+    let r = appending::insert(
+        s,
+        log,
+        index,
+        0,
+        &none,
+        words,
+        current,
+        entries,
+        areas,
+        t,
+        article,
+        count,
+    );
+    answer::append_out(r)
 }
 
 pub fn delete(
@@ -103,7 +121,22 @@ pub fn delete(
         (memoryLeft log index current catalogue area)
         (deleteOf (storeLent s log index current catalogue area) t article)) ⌝ }
 {
-    answer::append_out(appending::delete(s, log, index, current, entries, areas, t, article))
+    let none = [0u64; 1];
+    let words = index.len();
+    let r = appending::delete(
+        s,
+        log,
+        index,
+        0,
+        &none,
+        words,
+        current,
+        entries,
+        areas,
+        t,
+        article,
+    );
+    answer::append_out(r)
 }
 
 pub fn update(
@@ -122,7 +155,23 @@ pub fn update(
         (memoryLeft log index current catalogue area)
         (updateOf (storeLent s log index current catalogue area) t article count)) ⌝ }
 {
-    answer::append_out(appending::update(s, log, index, current, entries, areas, t, article, count))
+    let none = [0u64; 1];
+    let words = index.len();
+    let r = appending::update(
+        s,
+        log,
+        index,
+        0,
+        &none,
+        words,
+        current,
+        entries,
+        areas,
+        t,
+        article,
+        count,
+    );
+    answer::append_out(r)
 }
 
 pub fn position(
@@ -137,7 +186,10 @@ pub fn position(
     ensures { λ r. ⌜ ((catalogue : List Entry) (area : List ℕ) → length catalogue ≡ entries → length area ≡ areas
         → PositionCrossed r (storeLent s log index current catalogue area) t) ⌝ }
 {
-    answer::position_out(tables::position(s, log, index, current, entries, areas, t))
+    let none = [0u64; 1];
+    let words = index.len();
+    let r = tables::position(s, log, index, 0, &none, words, current, entries, areas, t);
+    answer::position_out(r)
 }
 
 pub fn table<'a>(
@@ -154,7 +206,10 @@ pub fn table<'a>(
         → TableCrossed r (storeLent s log index current catalogue (now (areas .entry))) t
         (now (out .entry)) (now (out .exit))) ⌝ }
 {
-    answer::table_out(tables::table(s, log, index, current, c, areas, t, out))
+    let none = [0u64; 1];
+    let words = index.len();
+    let r = tables::table(s, log, index, 0, &none, words, current, c, areas, t, out);
+    answer::table_out(r)
 }
 
 pub fn view(
@@ -169,7 +224,9 @@ pub fn view(
     ensures { λ r. ⌜ ((catalogue : List Entry) → c ≡ byValue catalogue
         → ViewCrossed r (storeLent s log index current catalogue (now (areas .entry))) t) ⌝ }
 {
-    let answer = tables::view(s, log, index, current, c, areas, t);
+    let none = [0u64; 1];
+    let words = index.len();
+    let answer = tables::view(s, log, index, 0, &none, words, current, c, areas, t);
     outset::view_out(s.limit, areas.len(), current.len(), answer)
 }
 
@@ -189,7 +246,24 @@ pub fn net_change<'a>(
         → NetChangeCrossed r (storeLent s log index current catalogue (now (areas .entry))) a b
         (now (out .entry)) (now (work .entry)) (now (out .exit)) (now (work .exit))) ⌝ }
 {
-    answer::net_change_out(comparing::net_change(s, log, index, current, c, areas, a, b, out, work))
+    let none = [0u64; 1];
+    let words = index.len();
+    let r = comparing::net_change(
+        s,
+        log,
+        index,
+        0,
+        &none,
+        words,
+        current,
+        c,
+        areas,
+        a,
+        b,
+        out,
+        work,
+    );
+    answer::net_change_out(r)
 }
 
 pub fn units<'a>(
@@ -204,7 +278,10 @@ pub fn units<'a>(
     ensures { λ r. ⌜ ((catalogue : List Entry) → c ≡ byValue catalogue
         → UnitsCrossed r (storeLent s log index current catalogue (now (areas .entry))) t) ⌝ }
 {
-    answer::units_out(units::at(s, log, index, current, c, areas, t))
+    let none = [0u64; 1];
+    let words = index.len();
+    let r = units::at(s, log, index, 0, &none, words, current, c, areas, t);
+    answer::units_out(r)
 }
 
 pub fn units_between<'a>(
@@ -220,7 +297,10 @@ pub fn units_between<'a>(
     ensures { λ r. ⌜ ((catalogue : List Entry) → c ≡ byValue catalogue
         → DifferenceCrossed r (storeLent s log index current catalogue (now (areas .entry))) a b) ⌝ }
 {
-    answer::difference_out(units::between(s, log, index, current, c, areas, a, b))
+    let none = [0u64; 1];
+    let words = index.len();
+    let r = units::between(s, log, index, 0, &none, words, current, c, areas, a, b);
+    answer::difference_out(r)
 }
 
 pub fn keep(
@@ -238,7 +318,10 @@ pub fn keep(
         (memoryLeft log index current (writtenBack catalogue (r .catalogue)) (now (areas .exit)))
         (keepOf (storeLent s log index current catalogue (now (areas .entry))) t mark)) ⌝ }
 {
-    answer::refile(filing::keep(s, log, index, current, c, areas, t, mark))
+    let none = [0u64; 1];
+    let words = index.len();
+    let r = filing::keep(s, log, index, 0, &none, words, current, c, areas, t, mark);
+    answer::refile(r)
 }
 
 pub fn drop(
@@ -255,7 +338,7 @@ pub fn drop(
         (memoryLeft log index current (writtenBack catalogue (r .catalogue)) (now (areas .exit)))
         (dropOf (storeLent s log index current catalogue (now (areas .entry))) t)) ⌝ }
 {
-    answer::refile(filing::drop(s, log, index, current, c, areas, t))
+    answer::refile(filing::drop(s, log, index.len(), current, c, areas, t))
 }
 
 pub fn drop_marked(
@@ -272,7 +355,7 @@ pub fn drop_marked(
         (memoryLeft log index current (writtenBack catalogue (r .catalogue)) (now (areas .exit)))
         (dropMarkedOf (storeLent s log index current catalogue (now (areas .entry))) mark)) ⌝ }
 {
-    answer::clear_out(filing::drop_marked(s, log, index, current, c, areas, mark))
+    answer::clear_out(filing::drop_marked(s, log, index.len(), current, c, areas, mark))
 }
 
 pub fn audit(
@@ -286,5 +369,8 @@ pub fn audit(
     ensures { λ r. ⌜ ((catalogue : List Entry) → c ≡ byValue catalogue
         → r ≡ yesOut (auditOf (storeLent s log index current catalogue (now (areas .entry))))) ⌝ }
 {
-    answer::yes_out(auditing::audit(s, log, index, current, c, areas))
+    let none = [0u64; 1];
+    let words = index.len();
+    let r = auditing::audit(s, log, index, 0, &none, words, current, c, areas);
+    answer::yes_out(r)
 }

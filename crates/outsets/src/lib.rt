@@ -4,6 +4,7 @@ ghost use Prim.Native.Nat.{_+_, _*_, _≤_};
 ghost use mathlib.Core.Path.{_≡_};
 ghost use lib.ListN.{length};
 ghost use Rattle.model.specs.Outset as outset;
+ghost use Rattle.tree.specs.Places.{stretchOf, Seen, stretchLent};
 ghost use Rattle.pages.specs.Paged.{Indexed, PositionIs};
 ghost use Rattle.outsets.specs.Used.{NearestIs};
 use catalogue::Catalogue;
@@ -31,25 +32,47 @@ fn apart(x: Position, y: Position) -> u32
 }
 
 // The position of a time, where that of t is known.
-fn position_of(log: &[u8], index: &[u64], s: Numbers, time: u64, t: u64, here: Position) -> Position
-    requires { ⌜ Indexed (s .order) (s .page) (s .records) (length (now index)) ⌝ }
+fn position_of(
+    log: &[u8],
+    index: &[u64],
+    extent: u32,
+    starts: &[u64],
+    words: usize,
+    s: Numbers,
+    time: u64,
+    t: u64,
+    here: Position,
+) -> Position
+    requires { ⌜ Indexed (s .order) (s .page) (s .records) words ⌝ }
+    requires { ⌜ Seen (s .order) extent (now starts) words (length (now index)) ⌝ }
     requires { ⌜ 24 + 24 * s .records ≤ length (now log) ⌝ }
-    requires { ⌜ PositionIs s t (now log) (now index) here ⌝ }
-    ensures { λ r. ⌜ PositionIs s time (now (log .entry)) (now (index .entry)) r ⌝ }
+    requires { ⌜ PositionIs s t (now log) (stretchOf (s .order) extent (now starts) words (now index)) here ⌝ }
+    ensures { λ r. ⌜ PositionIs s time (now (log .entry)) (stretchLent (s .order) extent starts words index) r ⌝ }
 {
     if time == t {
         return here;
     }
-    pages::position(log, index, s, time)
+    pages::position(log, index, extent, starts, words, s, time)
 }
 
 // The outset used for t, whose position is `here`: the later candidate only where strictly fewer requests lie between.
-pub fn choose(log: &[u8], index: &[u64], s: Numbers, c: Catalogue, t: u64, here: Position) -> Used
-    requires { ⌜ Indexed (s .order) (s .page) (s .records) (length (now index)) ⌝ }
+pub fn choose(
+    log: &[u8],
+    index: &[u64],
+    extent: u32,
+    starts: &[u64],
+    words: usize,
+    s: Numbers,
+    c: Catalogue,
+    t: u64,
+    here: Position,
+) -> Used
+    requires { ⌜ Indexed (s .order) (s .page) (s .records) words ⌝ }
+    requires { ⌜ Seen (s .order) extent (now starts) words (length (now index)) ⌝ }
     requires { ⌜ 24 + 24 * s .records ≤ length (now log) ⌝ }
-    requires { ⌜ PositionIs s t (now log) (now index) here ⌝ }
+    requires { ⌜ PositionIs s t (now log) (stretchOf (s .order) extent (now starts) words (now index)) here ⌝ }
     requires { ⌜ s .files ≤ 16 ⌝ }
-    ensures { λ r. ⌜ NearestIs s c t (now (log .entry)) (now (index .entry)) r ⌝ }
+    ensures { λ r. ⌜ NearestIs s c t (now (log .entry)) (stretchLent (s .order) extent starts words index) r ⌝ }
 {
     let current = Held {
         time: s.last,
@@ -58,8 +81,8 @@ pub fn choose(log: &[u8], index: &[u64], s: Numbers, c: Catalogue, t: u64, here:
     };
     let early = catalogue::earlier(c, s.files as usize, t);
     let late = catalogue::later(c, s.files as usize, t, current);
-    let before = position_of(log, index, s, early.time, t, here);
-    let after = position_of(log, index, s, late.time, t, here);
+    let before = position_of(log, index, extent, starts, words, s, early.time, t, here);
+    let after = position_of(log, index, extent, starts, words, s, late.time, t, here);
     let back = apart(here, before);
     let ahead = apart(here, after);
     if ahead < back {

@@ -1,1 +1,2 @@
 pub mod PagedLaws
+pub mod SeenLaws

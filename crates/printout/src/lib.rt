@@ -45,7 +45,20 @@ fn list_time(
     requires { ⌜ at + 65 ≤ length (now buffer) ⌝ }
     ensures { λ r. ⌜ r .at ≤ at + 65 ⌝ }
 {
-    let PositionAnswer::At(position) = tables::position(s, log, index, current, 0, 0, t) else {
+    let starts = [0u64; 1];
+    let words = index.len();
+    let PositionAnswer::At(position) = tables::position(
+        s,
+        log,
+        index,
+        0,
+        &starts,
+        words,
+        current,
+        0,
+        0,
+        t,
+    ) else {
         return Listed { at, requests: 0 };
     };
     let none = &current[0..0];
@@ -53,7 +66,19 @@ fn list_time(
         rows,
         side,
         between: _,
-    } = tables::table(s, log, index, current, no_files(), none, t, out)
+    } = tables::table(
+        s,
+        log,
+        index,
+        0,
+        &starts,
+        words,
+        current,
+        no_files(),
+        none,
+        t,
+        out,
+    )
     else {
         return Listed { at, requests: 0 };
     };
@@ -91,8 +116,20 @@ fn list_units(
         return output::fail();
     };
     let none = &current[0..0];
-    let UnitsAnswer::Units(total) = units::at(s, log, index, current, no_files(), none, s.last)
-    else {
+    let starts = [0u64; 1];
+    let words = index.len();
+    let UnitsAnswer::Units(total) = units::at(
+        s,
+        log,
+        index,
+        0,
+        &starts,
+        words,
+        current,
+        no_files(),
+        none,
+        s.last,
+    ) else {
         return output::finish(buffer, room, output::LISTED);
     };
     let end = lines::put_units(buffer, room, total);
@@ -154,7 +191,8 @@ pub extern "C" fn yk_list() -> u8
     if input::read_log(&mut log) {} else {
         return input::fail();
     }
-    let started = opening::open(&log, &mut index, &mut current, 0, 0);
+    let starts = [0u64; 1];
+    let started = opening::open(&log, &mut index, 0, &starts, 2729, &mut current, 0, 0);
     let verdict = started.verdict;
     match verdict {
         Verdict::Refused(why) => print_refused(why),

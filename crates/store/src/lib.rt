@@ -6,6 +6,8 @@ ghost use mathlib.Core.List.{List};
 ghost use Prim.Native.Nat.{ℕ};
 ghost use Rattle.model.specs.declared.Entry.{Entry};
 ghost use Rattle.model.specs.Promises.{storeOf};
+ghost use lib.ListN.{length};
+ghost use Rattle.tree.specs.Places.{Seen, stretchLent, stretchLeft};
 ghost use Rattle.catalogue.specs.Files.{byValue, writtenBack};
 ghost use Rattle.store.specs.declared.Said.the-variants as said;
 ghost use Rattle.store.specs.Making.{MadeAs};
@@ -110,21 +112,25 @@ fn answered(s: Numbers, c: Catalogue, said: Said) -> Made
     }
 }
 
-// One call, made on the store and on an output and a workspace of its own.
+// One call, made on the store, its index seen as one stretch, and on an output and a workspace of its own.
 pub fn make(
     call: Call,
     s: Numbers,
     log: &mut [u8],
     index: &mut [u64],
+    extent: u32,
+    starts: &[u64],
+    words: usize,
     current: &mut [u8],
     c: Catalogue,
     areas: &mut [u8],
     out: &mut [u8],
     work: &mut [u8],
 ) -> Made
+    requires { ⌜ Seen (s .order) extent (now starts) words (length (now index)) ⌝ }
     ensures { λ r. ⌜ ((catalogue : List Entry) → c ≡ byValue catalogue
-        → MadeAs call (storeOf s (now (log .entry)) (now (index .entry)) (now (current .entry)) catalogue (now (areas .entry))) (now (out .entry)) (now (work .entry))
-        (r .said) (storeOf (r .numbers) (now (log .exit)) (now (index .exit)) (now (current .exit)) (writtenBack catalogue (r .catalogue)) (now (areas .exit))) (now (out .exit)) (now (work .exit))) ⌝ }
+        → MadeAs call (storeOf s (now (log .entry)) (stretchLent (s .order) extent starts words index) (now (current .entry)) catalogue (now (areas .entry))) (now (out .entry)) (now (work .entry))
+        (r .said) (storeOf (r .numbers) (now (log .exit)) (stretchLeft (s .order) extent starts words index) (now (current .exit)) (writtenBack catalogue (r .catalogue)) (now (areas .exit))) (now (out .exit)) (now (work .exit))) ⌝ }
 {
     match call {
         Call::Insert {
@@ -136,6 +142,9 @@ pub fn make(
                 s,
                 log,
                 index,
+                extent,
+                starts,
+                words,
                 current,
                 c.lent,
                 areas.len(),
@@ -146,7 +155,19 @@ pub fn make(
             c,
         ),
         Call::Delete { time, article } => appended(
-            appending::delete(s, log, index, current, c.lent, areas.len(), time, article),
+            appending::delete(
+                s,
+                log,
+                index,
+                extent,
+                starts,
+                words,
+                current,
+                c.lent,
+                areas.len(),
+                time,
+                article,
+            ),
             c,
         ),
         Call::Update {
@@ -158,6 +179,9 @@ pub fn make(
                 s,
                 log,
                 index,
+                extent,
+                starts,
+                words,
                 current,
                 c.lent,
                 areas.len(),
@@ -168,36 +192,97 @@ pub fn make(
             c,
         ),
         Call::Position(t) => {
-            let x = tables::position(s, log, index, current, c.lent, areas.len(), t);
+            let x = tables::position(
+                s,
+                log,
+                index,
+                extent,
+                starts,
+                words,
+                current,
+                c.lent,
+                areas.len(),
+                t,
+            );
             answered(s, c, Said::Position(x))
         }
         Call::Table(t) => {
-            let x = tables::table(s, log, index, current, c, areas, t, out);
+            let x = tables::table(
+                s,
+                log,
+                index,
+                extent,
+                starts,
+                words,
+                current,
+                c,
+                areas,
+                t,
+                out,
+            );
             answered(s, c, Said::Table(x))
         }
         Call::View(t) => {
-            let x = tables::view(s, log, index, current, c, areas, t);
+            let x = tables::view(s, log, index, extent, starts, words, current, c, areas, t);
             answered(s, c, Said::View(x))
         }
-        Call::NetChange { a, b } => {
-            let x = comparing::net_change(s, log, index, current, c, areas, a, b, out, work);
+        Call::NetChange { a: from, b: to } => {
+            let x = comparing::net_change(
+                s,
+                log,
+                index,
+                extent,
+                starts,
+                words,
+                current,
+                c,
+                areas,
+                from,
+                to,
+                out,
+                work,
+            );
             answered(s, c, Said::NetChange(x))
         }
         Call::Units(t) => {
-            let x = units::at(s, log, index, current, c, areas, t);
+            let x = units::at(s, log, index, extent, starts, words, current, c, areas, t);
             answered(s, c, Said::Units(x))
         }
         Call::Difference { a, b } => {
-            let x = units::between(s, log, index, current, c, areas, a, b);
+            let x = units::between(
+                s,
+                log,
+                index,
+                extent,
+                starts,
+                words,
+                current,
+                c,
+                areas,
+                a,
+                b,
+            );
             answered(s, c, Said::Difference(x))
         }
         Call::Keep { time, mark } => {
-            filed(filing::keep(s, log, index, current, c, areas, time, mark))
+            filed(filing::keep(
+                s,
+                log,
+                index,
+                extent,
+                starts,
+                words,
+                current,
+                c,
+                areas,
+                time,
+                mark,
+            ))
         }
-        Call::Drop(t) => filed(filing::drop(s, log, index, current, c, areas, t)),
-        Call::DropMarked(k) => cleared(filing::drop_marked(s, log, index, current, c, areas, k)),
+        Call::Drop(t) => filed(filing::drop(s, log, words, current, c, areas, t)),
+        Call::DropMarked(k) => cleared(filing::drop_marked(s, log, words, current, c, areas, k)),
         Call::Audit => {
-            let passed = auditing::audit(s, log, index, current, c, areas);
+            let passed = auditing::audit(s, log, index, extent, starts, words, current, c, areas);
             answered(s, c, Said::Audit(passed))
         }
     }

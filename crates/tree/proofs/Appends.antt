@@ -14,7 +14,8 @@ use Rattle.codec.proofs.PartLaws.{length-put}
 use Rattle.model.specs.Shape.{opens, host, padded, leavesOf, leafWords, separator, innerWords}
 use Rattle.model.specs.Numbering.{nodes, leafNode, innerNode}
 use Rattle.model.specs.Tree.{Packed}
-use Rattle.tree.specs.Append.{slot, withSeparator, withLeaf, appendOf, Placed}
+use Rattle.tree.specs.Append.{slot, withSeparator, withLeaf, appendOf}
+use Rattle.tree.specs.Places.{Placed}
 use Rattle.tree.proofs.Orders.{le-or-lt}
 use Rattle.tree.proofs.Numbers.{leaf-in}
 use Rattle.tree.proofs.Hosts.{opens-none}

@@ -14,8 +14,13 @@ pub mod Allotments
 pub mod Apart
 -- an index that holds the tree: one key more, written whole
 pub mod Packings
+pub mod WrittenAt
 pub mod Written
+pub mod PlaceLaws
 pub mod Rooms
 pub mod Appends
+pub mod FillingsAt
 pub mod Fillings
+pub mod Gatherings
+pub mod Stretches
 pub mod Cases

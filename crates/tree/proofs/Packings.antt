@@ -102,6 +102,20 @@ getD-map f [] i h = absurd (not-suc-le-zero h)
 getD-map f (x ∷ xs) zero h = refl
 getD-map f (x ∷ xs) (suc i) h = getD-map f xs i (le-of-suc-le-suc h)
 
+-- ---- what the words of a node are, wherever it stands
+
+module _ (d : ℕ) (two : 2 ≤ d) (keys : List ℕ) where
+  pub leaf-word : (m i : ℕ) → i < d - 1 → getD (leafWords d keys m) i 0 ≡ getD keys (m * (d - 1) + i) 0
+  unfolding leafWords
+  leaf-word m i l = getD-padded (d - 1) (take (d - 1) (drop (m * (d - 1)) keys)) i ∙ getD-take (d - 1) (drop (m * (d - 1)) keys) i 0 l ∙ getD-drop (m * (d - 1)) keys i 0
+
+  pub inner-word : (l b i n : ℕ) → i < d - 1 → start d l b + i * d ^ l < n → getD (innerWords d keys n (start d l b)) i 0 ≡ separator d keys (start d l b + i * d ^ l)
+  unfolding innerWords
+  inner-word l b i n f here =
+      let s = start d l b in
+      let g = takers-get d two l b i n f here in
+      getD-padded (d - 1) (map (separator d keys) (takers d s n)) i ∙ getD-map (separator d keys) (takers d s n) i (g .0) ∙ ap (separator d keys) (g .1)
+
 -- ---- where the words are
 
 -- the keys of leaf m from word leaf m on
@@ -118,13 +132,10 @@ module _ (at : ℕ → ℕ) (d : ℕ) (two : 2 ≤ d) (keys xs : List ℕ) (h : 
   word a i l = getD-take (d - 1) (drop a xs) i 0 l ∙ getD-drop a xs i 0
 
   pub leaves-at : LeavesAt (λ m. at (leafNode d m)) xs keys d
-  unfolding leafWords
   leaves-at m i l k =
-      sym (word (at (leafNode d m)) i l) ∙ ap (λ (ys : List ℕ). getD ys i 0) (h .leaf m (leaf-there d (length keys) m two (omega arith)))
-      ∙ getD-padded (d - 1) (take (d - 1) (drop (m * (d - 1)) keys)) i ∙ getD-take (d - 1) (drop (m * (d - 1)) keys) i 0 l ∙ getD-drop (m * (d - 1)) keys i 0
+      sym (word (at (leafNode d m)) i l) ∙ ap (λ (ys : List ℕ). getD ys i 0) (h .leaf m (leaf-there d (length keys) m two (omega arith))) ∙ leaf-word d two keys m i l
 
   pub separators-at : SeparatorsAt (λ m. at (innerNode d m)) xs keys d
-  unfolding innerWords
   separators-at l b i f k =
       let e : b * d ^ suc l + d ^ l ≡ start d l b = rw pow-suc (omega arith) in
       rw e (at-start (rw e at k))
@@ -134,6 +145,4 @@ module _ (at : ℕ → ℕ) (d : ℕ) (two : 2 ≤ d) (keys xs : List ℕ) (h : 
           let s = start d l b in
           let n = leavesOf d (length keys) in
           let here : s + i * d ^ l < n = leaf-there d (length keys) (s + i * d ^ l) two k in
-          let g = takers-get d two l b i n f here in
-          sym (word (at (innerNode d s)) i f) ∙ ap (λ (ys : List ℕ). getD ys i 0) (h .inner s (omega arith) (opens-at d two l b))
-          ∙ getD-padded (d - 1) (map (separator d keys) (takers d s n)) i ∙ getD-map (separator d keys) (takers d s n) i (g .0) ∙ ap (separator d keys) (g .1)
+          sym (word (at (innerNode d s)) i f) ∙ ap (λ (ys : List ℕ). getD ys i 0) (h .inner s (omega arith) (opens-at d two l b)) ∙ inner-word d two keys l b i n f here

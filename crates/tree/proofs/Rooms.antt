@@ -15,7 +15,8 @@ use Rattle.codec.specs.Parts.{put, zeros}
 use Rattle.model.specs.Shape.{valuation, cofactor, opens, host, padded}
 use Rattle.model.specs.Numbering.{nodes, leafNode, innerNode, nodeWord}
 use Rattle.tree.specs.Levels.{fullNodes, Room}
-use Rattle.tree.specs.Append.{slot, withSeparator, withLeaf, Placed, Needed}
+use Rattle.tree.specs.Places.{placeOf, Reached, Placed}
+use Rattle.tree.specs.Append.{slot, withSeparator, withLeaf, Needed}
 use Rattle.tree.proofs.Orders.{le-or-lt}
 use Rattle.tree.proofs.Valuations.{cofactor-odd}
 use Rattle.tree.proofs.Numbers.{leaf-in, leaf-before, not-opened, leaf-closed, inners-le}
@@ -68,38 +69,22 @@ module _ (d m : ℕ) (two : 2 ≤ d) (p : 0 < m) where
       by zero e = absurd (let z : _≡_ {A = ℕ} 0 1 = cc (opens-none d two, hosted d two m p .opened-by) in omega arith)
       by (suc x) e = suc-le-suc zero-le
 
-module _ (d n m : ℕ) (two : 2 ≤ d) (long : nodes d (m + 1) * (d - 1) ≤ n) where
-  room : (i : ℕ) → i < nodes d (m + 1) → nodeWord d i + (d - 1) ≤ n
-  room i l = omega (arith, mul-le-mul-right (d - 1) l)
+-- the nodes of the leaves up to m, placed apart in an index of n words
+module _ (at : ℕ → ℕ) (d n m : ℕ) (two : 2 ≤ d) (h : Placed at (d - 1) (nodes d (m + 1)) n) where
+  pub leaf-room : at (leafNode d m) + (d - 1) ≤ n
+  leaf-room = h .room (leafNode d m) (leaf-in d two m (m + 1) (omega arith))
 
-  pub leaf-room : nodeWord d (leafNode d m) + (d - 1) ≤ n
-  leaf-room = room (leafNode d m) (leaf-in d two m (m + 1) (omega arith))
+  pub inner-room : at (innerNode d m) + (d - 1) ≤ n
+  inner-room = h .room (innerNode d m) (omega (arith, leaf-in d two m (m + 1) (omega arith)))
 
-  pub inner-room : nodeWord d (innerNode d m) + (d - 1) ≤ n
-  inner-room = room (innerNode d m) (omega (arith, leaf-in d two m (m + 1) (omega arith)))
-
-  pub last-room : 0 < m → nodeWord d (leafNode d (m - 1)) + (d - 2) < n
-  last-room p = omega (arith, room (leafNode d (m - 1)) (leaf-in d two (m - 1) (m + 1) (omega arith)))
-
-  pub separator-room : 0 < m → nodeWord d (innerNode d (host d m)) + slot d m < n
-  separator-room p =
-      let low = host-le d two m in
-      omega (arith, room (innerNode d (host d m)) (omega (arith, leaf-in d two (host d m) (m + 1) (omega arith))), hosted d two m p .fits)
-
--- leaf m is needed: the addresses by its number
-module _ (d n m leaf : ℕ) (h : Needed d n m leaf) where
+-- leaf m is needed: the nodes by its number
+module _ (d : ℕ) (P : ℕ → Type 0) (m leaf : ℕ) (h : Needed d P m leaf) where
   pub leaf-small : leaf ≤ 131072
   leaf-small = omega (arith, h .number, leaf-closed d (h .order-low) m, inners-le d (h .order-low) m, h .few)
 
-  pub leaf-fits : leaf * (d - 1) + (d - 1) ≤ n
-  leaf-fits = rw (h .number) (leaf-room d n m (h .order-low) (h .long))
-
-  -- a node up to the leaf's, by its first word
-  pub node-fits : {w i : ℕ} → w ≡ nodeWord d i → i ≤ leaf → w + (d - 1) ≤ n
-  node-fits {w} {i} e l = omega (arith, mul-le-mul-right (d - 1) l, leaf-fits)
-
-  pub last-fits : {w i : ℕ} → w ≡ nodeWord d i → i ≤ leaf → w + (d - 2) < n
-  last-fits {w} {i} e l = omega (arith, node-fits e l, h .order-low)
+  -- a node up to the leaf's
+  pub node-reach : {i : ℕ} → i ≤ leaf → P i
+  node-reach {i} l = h .reach i (omega (arith, h .number, leaf-in d (h .order-low) m (m + 1) (omega arith)))
 
   module _ (p : 0 < m) where
     pub leaf-some : 1 ≤ leaf
@@ -123,20 +108,21 @@ module _ (d n m leaf : ℕ) (h : Needed d n m leaf) where
       pub open-is : leaf - 1 - (cofactor d m % d - 1) * fullNodes d (valuation d m) ≡ innerNode d (host d m)
       open-is = omega (arith, h .number, host-number d m (h .order-low) p)
 
-      -- the leaf is past it
-      pub open-room : nodeWord d (innerNode d (host d m)) + (d - 1) < n
-      open-room =
-          let le : suc (innerNode d (host d m)) ≤ leaf = omega (arith, open-is, leaf-some, h .number) in
-          omega (arith, mul-le-mul-right (d - 1) le, leaf-fits, h .order-low)
+      pub open-reach : P (innerNode d (host d m))
+      open-reach = node-reach (omega (arith, open-is))
+
+-- a node up to the leaf's, whose first word is r, lies in the index
+pub node-inside : {d e len m leaf r i : ℕ} {starts : List ℕ} → Needed d (Reached d e starts len) m leaf → r ≡ placeOf d e starts i → i ≤ leaf → r + (d - 1) ≤ len
+node-inside {d} {m = m} {leaf = leaf} h at l = omega (arith, at, node-reach d _ m leaf h l .inside)
 
 -- one key more needs leaf k / (d - 1)
-pub needed-next : (d k n leaf : ℕ) → Room d (k + 1) n → leaf ≡ leafNode d (k / (d - 1)) → Needed d n (k / (d - 1)) leaf
-needed-next d k n leaf h e = record {
+pub needed-next : (d k : ℕ) (P : ℕ → Type 0) (leaf : ℕ) → Room d (k + 1) P → leaf ≡ leafNode d (k / (d - 1)) → Needed d P (k / (d - 1)) leaf
+needed-next d k P leaf h e = record {
   order-low = h .order-low;
   order-high = h .order-high;
   few = le-trans (div-le-self k (d - 1)) (omega (arith, h .few));
   number = e;
-  long = rw (leaves-next d k (h .order-low)) at (h .long);
+  reach = rw (leaves-next d k (h .order-low)) at (h .reach);
 }
 
 -- a new node written to the part that runs to the end
@@ -148,11 +134,6 @@ put-node a w v xs {ys} p h e =
     let n : length (padded w (v ∷ [])) ≡ w = length-padded w (v ∷ []) (omega arith) in
     let f : ys ≡ padded w (v ∷ []) ++ drop (a + w) xs = e ∙ ap (λ (zs : List ℕ). padded w (v ∷ []) ++ drop w zs) whole ∙ ap (λ (zs : List ℕ). padded w (v ∷ []) ++ zs) (drop-drop w a xs) in
     ap (λ (zs : List ℕ). take a xs ++ (ys ++ zs)) none ∙ ap (λ (zs : List ℕ). take a xs ++ zs) (append-nil ys ∙ f) ∙ ap (λ (k : ℕ). take a xs ++ (padded w (v ∷ []) ++ drop (a + k) xs)) (sym n)
-
--- zeros written to a part at the front
-pub clear-front : (w : ℕ) (xs : List ℕ) {ys : List ℕ} → w ≤ length xs → ys ≡ zeros (length (take (w - 0) xs)) → putMid 0 (w - 0) xs ys ≡ zeros w ++ drop w xs
-clear-front w xs {ys} h e =
-    ap₂ (λ (zs : List ℕ) (n : ℕ). zs ++ drop n xs) (e ∙ ap (λ (n : ℕ). zeros (length (take n xs))) (sub-zero w) ∙ ap zeros (length-take-le w xs h)) (sub-zero w)
 
 pub node-room : (a w : ℕ) (xs : List ℕ) → a + w ≤ length xs → w ≤ length (take (length xs - a) (drop a xs))
 node-room a w xs h = simp (length-take, length-drop) (omega arith)

@@ -2,14 +2,13 @@
 -- word `at k` on. `appendOf` is what contracts cite. Assumes nothing.
 use Prim.Native.Nat.{ℕ, suc, _+_, _-_, _*_, _/_, _%_, _≤_, _<_}
 use mathlib.Core.Path.{_≡_}
-use mathlib.Core.Logic.{_⊎_}
 use mathlib.Core.List.{List, [], _∷_}
 use mathlib.Core.Bool.{cond}
 use lib.ListN.{getD, set}
 use lib.Dec.{eqb}
 use Rattle.codec.specs.Parts.{put}
 use Rattle.model.specs.Shape.{opens, host, cofactor, padded}
-use Rattle.model.specs.Numbering.{nodes, leafNode, innerNode, nodeWord}
+use Rattle.model.specs.Numbering.{nodes, leafNode, innerNode}
 
 -- the word of its node that takes the separator of leaf m: the next one of the open node
 unfoldable pub slot : ℕ → ℕ → ℕ
@@ -22,9 +21,9 @@ withSeparator at d m s xs =
     (cond (opens d m) (put xs (at (innerNode d m)) (padded (d - 1) (s ∷ [])))
     (set xs (at (innerNode d (host d m)) + slot d m) s))
 
--- the same in the packed index, the last key of leaf m - 1 being read there
-abbrev pub separated : ℕ → ℕ → List ℕ → List ℕ
-separated d m xs = withSeparator (nodeWord d) d m (getD xs (nodeWord d (leafNode d (m - 1)) + (d - 2)) 0) xs
+-- the same, the last key of leaf m - 1 being read there
+abbrev pub separated : (at : ℕ → ℕ) → ℕ → ℕ → List ℕ → List ℕ
+separated at d m xs = withSeparator at d m (getD xs (at (leafNode d (m - 1)) + (d - 2)) 0) xs
 
 -- leaf m is needed for the key x
 unfoldable pub withLeaf : (at : ℕ → ℕ) → ℕ → ℕ → ℕ → List ℕ → List ℕ
@@ -41,15 +40,10 @@ fillOf at d k (x ∷ js) xs = fillOf at d (suc k) js (appendOf at d k x xs)
 
 -- ---- what the calls ask for
 
--- leaf m is one of the leaves that an index of n words has room for, and `leaf` is its number
-pub record Needed (d n m leaf : ℕ) : Type 0 where
+-- leaf m is needed, `leaf` is its number, and all nodes up to it can be reached
+pub record Needed (d : ℕ) (P : ℕ → Type 0) (m leaf : ℕ) : Type 0 where
   pub order-low : 2 ≤ d
   pub order-high : d ≤ 64
   pub few : m ≤ 65536
   pub number : leaf ≡ leafNode d m
-  pub long : nodes d (m + 1) * (d - 1) ≤ n
-
--- n nodes of w words each, apart from one another, in an index of len words
-pub record Placed (at : ℕ → ℕ) (w n len : ℕ) : Type 0 where
-  pub room : (i : ℕ) → i < n → at i + w ≤ len
-  pub apart : (i j : ℕ) → i < n → j < n → (i ≡ j → ⊥) → (at i + w ≤ at j) ⊎ (at j + w ≤ at i)
+  pub reach : (i : ℕ) → i < nodes d (m + 1) → P i

@@ -1,7 +1,7 @@
 -- Counts of nodes by levels: the closed form of the packed numbering (01, "Packed tree"). Leaf m is node
 -- m + inners d m; the laws of `Numbers` tie it to the numbering of the model. Assumes nothing.
-use Prim.Native.Nat.{ℕ, zero, suc, _+_, _-_, _/_, _^_, _≤_}
-use Rattle.model.specs.Tree.{indexWords}
+use Prim.Native.Nat.{ℕ, zero, suc, _+_, _-_, _*_, _/_, _^_, _≤_, _<_}
+use Rattle.model.specs.Tree.{nodesOf, indexWords}
 
 -- the inner nodes that the leaves up to m opened: on each level one for every d separators or part of d
 unfoldable pub innersUpTo : ℕ → ℕ → ℕ → ℕ
@@ -25,8 +25,15 @@ unfoldable pub sumOf : (ℕ → ℕ) → ℕ → ℕ
 sumOf f zero = 0
 sumOf f (suc n) = f 0 + sumOf (λ i. f (suc i)) n
 
--- an order of 01, and k keys with room for them in an index of n words
-pub record Room (d k n : ℕ) : Type 0 where
+-- an order of 01, and k keys whose nodes can all be reached
+pub record Room (d k : ℕ) (P : ℕ → Type 0) : Type 0 where
+  pub order-low : 2 ≤ d
+  pub order-high : d ≤ 64
+  pub few : k ≤ 65536
+  pub reach : (i : ℕ) → i < nodesOf d k → P i
+
+-- the same in one stretch: room for them in an index of n words
+pub record Stretch (d k n : ℕ) : Type 0 where
   pub order-low : 2 ≤ d
   pub order-high : d ≤ 64
   pub few : k ≤ 65536

@@ -12,23 +12,24 @@ use Rattle.codec.proofs.PartLaws.{length-part}
 use Rattle.codec.proofs.Sameness.{same-of-equal, same-of-unequal}
 use Rattle.model.specs.Records.{records}
 use Rattle.model.specs.Shape.{opens, valuation, cofactor, leavesOf}
-use Rattle.model.specs.Numbering.{nodes, leafNode, nodeWord}
+use Rattle.model.specs.Numbering.{nodes, leafNode}
 use Rattle.model.specs.Pages.{pageTimes, pagesOf}
-use Rattle.model.specs.Tree.{indexWords, withTree, Packed}
+use Rattle.model.specs.Tree.{nodesOf, Packed}
 use Rattle.model.proofs.RecordLaws.{length-records}
 use Rattle.model.proofs.PageLaws.{length-page-times}
 use Rattle.tree.specs.Levels.{innersOver, fullNodes}
+use Rattle.tree.specs.Places.{placeOf, withTreeAt, Placed}
 use Rattle.tree.proofs.Numbers.{leaf-in}
 use Rattle.tree.proofs.Runs.{run-step, over-step}
 use Rattle.tree.proofs.Valuations.{restored}
 use Rattle.tree.proofs.Allotments.{inner-node}
 use Rattle.tree.proofs.Packings.{ByLeaf, by-leaf, packed, leaf-length, inner-length}
-use Rattle.tree.proofs.Written.{with-packed, packed-with}
+use Rattle.tree.proofs.WrittenAt.{with-packed, packed-with}
 use Rattle.tree_audit.specs.Times.{Decides}
 use Rattle.tree_audit.specs.Stands.{spanOf, firstOf, Stands, Auditable, Openable}
 use Rattle.tree_audit.proofs.Words.{same-words, word-at, leaf-word, inner-word, leaf-is, leaf-not}
 
-module _ (d N n : ℕ) (b words : List ℕ) (h : Auditable d N n (length b) (length words)) where
+module _ (d N n : ℕ) (b words : List ℕ) {x : ℕ} {starts : List ℕ} (h : Auditable d N n (length b) x starts (length words)) where
   abbrev pub keys : List ℕ
   keys = pageTimes N (records b n)
 
@@ -41,14 +42,17 @@ module _ (d N n : ℕ) (b words : List ℕ) (h : Auditable d N n (length b) (len
   key-count : length keys ≡ pagesOf N n
   key-count = length-page-times N some (records b n) ∙ ap (pagesOf N) (length-records b n)
 
-  room : indexWords d (length keys) ≤ length words
-  room = rw key-count (h .index-long)
+  room : Placed (placeOf d x starts) (d - 1) (nodesOf d (length keys)) (length words)
+  room = rw key-count (h .laid .placed)
 
   -- a node before the last leaf's end is there
-  pub node-there : (m i : ℕ) → m < leaves → i ≤ leafNode d m → nodeWord d i + (d - 1) ≤ length words
-  node-there m i l k =
-      let more : suc i ≤ nodes d leaves = omega (arith, leaf-in d (h .order-low) m leaves l) in
-      omega (arith, mul-le-mul-right (d - 1) more, room)
+  pub node-in : (m i : ℕ) → m < leaves → i ≤ leafNode d m → i < nodesOf d (pagesOf N n)
+  node-in m i l k =
+      let more : i < nodes d leaves = omega (arith, leaf-in d (h .order-low) m leaves l) in
+      rw key-count at more
+
+  pub node-there : (m i : ℕ) → m < leaves → i ≤ leafNode d m → placeOf d x starts i + (d - 1) ≤ length words
+  node-there m i l k = h .laid .placed .room i (node-in m i l k)
 
   pub leaf-there : (m : ℕ) → firstOf d N m < n → m < leaves
   leaf-there m l = leaf-is N some b n d (h .order-low) m l
@@ -58,36 +62,36 @@ module _ (d N n : ℕ) (b words : List ℕ) (h : Auditable d N n (length b) (len
 
   -- ---- both ways
 
-  stands-of-leaf : (at : ByLeaf (nodeWord d) d leaves keys words) (m : ℕ) → m < leaves → Stands d N n b words m
-  stands-of-leaf at m l = record {
-    leaf = λ i k. sym (word-at (nodeWord d (leafNode d m)) (d - 1) words i k) ∙ ap (λ (ys : List ℕ). getD ys i 0) (at .leaf m l) ∙ leaf-word N some b n d (h .order-low) m i k;
-    inner = λ o i k. sym (word-at (nodeWord d (nodes d m)) (d - 1) words i k)
-        ∙ ap (λ (ys : List ℕ). getD ys i 0) ((rw (inner-node d (h .order-low) m o) at (at .inner m l o))) ∙ inner-word N some b n d (h .order-low) m i o k;
+  stands-of-leaf : (p : ByLeaf (placeOf d x starts) d leaves keys words) (m : ℕ) → m < leaves → Stands (placeOf d x starts) d N n b words m
+  stands-of-leaf p m l = record {
+    leaf = λ i k. sym (word-at (placeOf d x starts (leafNode d m)) (d - 1) words i k) ∙ ap (λ (ys : List ℕ). getD ys i 0) (p .leaf m l) ∙ leaf-word N some b n d (h .order-low) m i k;
+    inner = λ o i k. sym (word-at (placeOf d x starts (nodes d m)) (d - 1) words i k)
+        ∙ ap (λ (ys : List ℕ). getD ys i 0) ((rw (inner-node d (h .order-low) m o) at (p .inner m l o))) ∙ inner-word N some b n d (h .order-low) m i o k;
   }
 
-  pub stands-of-packed : Packed (nodeWord d) d keys words → (m : ℕ) → m < leaves → Stands d N n b words m
-  stands-of-packed p m l = stands-of-leaf (by-leaf (nodeWord d) d (h .order-low) keys words p) m l
+  pub stands-of-packed : Packed (placeOf d x starts) d keys words → (m : ℕ) → m < leaves → Stands (placeOf d x starts) d N n b words m
+  stands-of-packed p m l = stands-of-leaf (by-leaf (placeOf d x starts) d (h .order-low) keys words p) m l
 
-  pub packed-of-stands : ((m : ℕ) → m < leaves → Stands d N n b words m) → Packed (nodeWord d) d keys words
-  packed-of-stands s = packed (nodeWord d) d (h .order-low) keys words (record {
+  pub packed-of-stands : ((m : ℕ) → m < leaves → Stands (placeOf d x starts) d N n b words m) → Packed (placeOf d x starts) d keys words
+  packed-of-stands s = packed (placeOf d x starts) d (h .order-low) keys words (record {
     leaf = λ m l.
         let e = leaf-length d (h .order-low) keys m in
-        same-words _ _ (length-part (nodeWord d (leafNode d m)) (d - 1) words (node-there m (leafNode d m) l (le-refl (leafNode d m))) ∙ sym e)
-        (λ i k. word-at (nodeWord d (leafNode d m)) (d - 1) words i (omega (arith, e)) ∙ s m l .leaf i (omega (arith, e)) ∙ sym (leaf-word N some b n d (h .order-low) m i (omega (arith, e))));
+        same-words _ _ (length-part (placeOf d x starts (leafNode d m)) (d - 1) words (node-there m (leafNode d m) l (le-refl (leafNode d m))) ∙ sym e)
+        (λ i k. word-at (placeOf d x starts (leafNode d m)) (d - 1) words i (omega (arith, e)) ∙ s m l .leaf i (omega (arith, e)) ∙ sym (leaf-word N some b n d (h .order-low) m i (omega (arith, e))));
     inner = λ m l o.
         let e = inner-length d (h .order-low) keys leaves m o in
-        let at = inner-node d (h .order-low) m o in
-        rw at (same-words _ _ (length-part (nodeWord d (nodes d m)) (d - 1) words (node-there m (nodes d m) l (omega (arith, at))) ∙ sym e)
-        (λ i k. word-at (nodeWord d (nodes d m)) (d - 1) words i (omega (arith, e)) ∙ s m l .inner o i (omega (arith, e)) ∙ sym (inner-word N some b n d (h .order-low) m i o (omega (arith, e)))));
+        let nd = inner-node d (h .order-low) m o in
+        rw nd (same-words _ _ (length-part (placeOf d x starts (nodes d m)) (d - 1) words (node-there m (nodes d m) l (omega (arith, nd))) ∙ sym e)
+        (λ i k. word-at (placeOf d x starts (nodes d m)) (d - 1) words i (omega (arith, e)) ∙ s m l .inner o i (omega (arith, e)) ∙ sym (inner-word N some b n d (h .order-low) m i o (omega (arith, e)))));
   })
 
   -- ---- the answer
 
-  pub tree-held : Packed (nodeWord d) d keys words → true ≡ same (withTree d keys words) words
-  tree-held p = sym (same-of-equal _ _ (packed-with d (h .order-low) keys words room p))
+  pub tree-held : Packed (placeOf d x starts) d keys words → true ≡ same (withTreeAt (placeOf d x starts) d keys words) words
+  tree-held p = sym (same-of-equal _ _ (packed-with (placeOf d x starts) d (h .order-low) keys words room p))
 
-  pub tree-not-held : (Packed (nodeWord d) d keys words → ⊥) → false ≡ same (withTree d keys words) words
-  tree-not-held other = sym (same-of-unequal _ _ (λ e. other (rw e at (with-packed d (h .order-low) keys words room))))
+  pub tree-not-held : (Packed (placeOf d x starts) d keys words → ⊥) → false ≡ same (withTreeAt (placeOf d x starts) d keys words) words
+  tree-not-held other = sym (same-of-unequal _ _ (λ e. other (rw e at (with-packed (placeOf d x starts) d (h .order-low) keys words room))))
 
 -- ---- the span of a leaf
 

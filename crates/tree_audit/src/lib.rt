@@ -1,16 +1,17 @@
 // Whether an index holds the packed tree over the page times of a log (01, "Packed tree"), word by word: node after node
 // in the order of allocation, each word compared with the time of the record it stands for. No key list is made.
 ghost use mathlib.Core.Path.{_≡_};
-ghost use Prim.Native.Nat.{_+_, _-_, _*_, _^_, _≤_, _<_};
+ghost use Prim.Native.Nat.{_+_, _-_, _*_, _≤_, _<_};
 ghost use mathlib.Core.Bool.{cond};
 ghost use lib.ListN.{length};
 ghost use lib.Dec.{ltb};
 ghost use Rattle.codec.specs.Parts.{same};
 ghost use Rattle.model.specs.Records.{records};
 ghost use Rattle.model.specs.Pages.{pageTimes};
-ghost use Rattle.model.specs.Tree.{withTree};
+ghost use Rattle.tree.specs.Places.{placeOf, withTreeAt};
 ghost use Rattle.tree_audit.specs.Times.{Decides, timeIn, TimesAt, Readable};
 ghost use Rattle.tree_audit.specs.Stands.{spanOf, Auditable, Openable};
+use model::NodeNumber;
 
 // The time of record k, or zero from record `stop` on.
 fn time_in(b: &[u8], stop: usize, k: usize) -> u64
@@ -86,38 +87,48 @@ fn holds_opened(
     holds_times(b, words, at, w, first - page, span * w * page, n - page)
 }
 
-// The word after the node that a leaf opened, if it opened one.
-fn past_opened(at: usize, w: usize, span: usize) -> usize
-    requires { ⌜ at + w < 2 ^ 64 ⌝ }
-    ensures { λ r. ⌜ r ≡ cond (ltb 0 span) (at + w) at ⌝ }
+// The number after that of the node that a leaf opened, if it opened one.
+fn past_opened(node: u32, span: usize) -> u32
+    requires { ⌜ node ≤ 131072 ⌝ }
+    ensures { λ r. ⌜ r ≡ cond (ltb 0 span) (node + 1) node ⌝ }
 {
     if 0 < span {
-        return at + w;
+        return node + 1;
     }
-    at
+    node
 }
 
 // Whether the words are those of the packed tree over the page times of the n records b.
-pub fn holds_tree(b: &[u8], n: u32, order: u16, page: u16, words: &[u64]) -> bool
-    requires { ⌜ Auditable order page n (length (now b)) (length (now words)) ⌝ }
-    ensures { λ r. ⌜ r ≡ same (withTree order (pageTimes page (records (now (b .entry)) n)) (now (words .entry))) (now (words .entry)) ⌝ }
+pub fn holds_tree(
+    b: &[u8],
+    n: u32,
+    order: u16,
+    page: u16,
+    words: &[u64],
+    extent: u32,
+    starts: &[u64],
+) -> bool
+    requires { ⌜ Auditable order page n (length (now b)) extent (now starts) (length (now words)) ⌝ }
+    ensures { λ r. ⌜ r ≡ same (withTreeAt (placeOf order extent (now (starts .entry))) order (pageTimes page (records (now (b .entry)) n)) (now (words .entry))) (now (words .entry)) ⌝ }
 {
     let w = (order as usize) - 1;
     let size = page as usize;
     let stop = n as usize;
     let mut m: u32 = 0;
-    let mut at: usize = 0;
+    let mut node: u32 = 0;
     let mut first: usize = 0;
     while first < stop {
         let span = span_of(order as u32, m) as usize;
+        let at = tree::node_word(extent, starts, order as u32, NodeNumber(node));
         if holds_opened(b, words, at, w, size, stop, first, span) {} else {
             return false;
         }
-        let leaf = past_opened(at, w, span);
-        if holds_times(b, words, leaf, w, first, size, stop) {} else {
+        let leaf = past_opened(node, span);
+        let place = tree::node_word(extent, starts, order as u32, NodeNumber(leaf));
+        if holds_times(b, words, place, w, first, size, stop) {} else {
             return false;
         }
-        at = leaf + w;
+        node = leaf + 1;
         first += w * size;
         m += 1;
     }

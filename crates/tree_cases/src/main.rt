@@ -3,7 +3,7 @@
 // a plain count. It prints how many were wrong, an order to a line.
 ghost use Prim.Native.Nat.{_+_, _*_, _≤_, _<_};
 ghost use lib.ListN.{length};
-ghost use Rattle.tree.specs.Levels.{Room};
+ghost use Rattle.tree.specs.Levels.{Stretch};
 use descent::keys_up_to;
 use tree::append;
 use tree::index_words;
@@ -212,13 +212,15 @@ fn count_up_to(k: usize, t: u64) -> u64
 }
 
 fn wrong_count(index: &[u64], d: usize, k: usize, t: u64, wrong: u64) -> u64
-    requires { ⌜ Room d k (length (now index)) ⌝ }
+    requires { ⌜ Stretch d k (length (now index)) ⌝ }
 {
-    tally(wrong, keys_up_to(index, d, k, t) as u64, count_up_to(k, t))
+    let none = [0u64; 1];
+    let found = keys_up_to(index, 0, &none, d, k, t);
+    tally(wrong, found as u64, count_up_to(k, t))
 }
 
 fn wrong_counts(index: &[u64], d: usize, k: usize) -> u64
-    requires { ⌜ Room d k (length (now index)) ⌝ }
+    requires { ⌜ Stretch d k (length (now index)) ⌝ }
 {
     let mut wrong: u64 = 0;
     let mut i = 0;
@@ -233,11 +235,12 @@ fn wrong_counts(index: &[u64], d: usize, k: usize) -> u64
 }
 
 fn build(index: &mut [u64], d: usize, k: usize)
-    requires { ⌜ Room d k (length (now index)) ⌝ }
+    requires { ⌜ Stretch d k (length (now index)) ⌝ }
 {
     let mut i = 0;
     while i < k {
-        append(index, d, i, key(i));
+        let none = [0u64; 1];
+        append(index, 0, &none, d, i, key(i));
         i += 1;
     }
 }

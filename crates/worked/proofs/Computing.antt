@@ -10,7 +10,7 @@ use Rattle.model.specs.Timeslice.{named, table, upTo, timeslice}
 use Rattle.model.specs.Legal.{formed, lastFrom, isUpdate, inTime, allowed, legalNext, legalAfter, legalCount}
 use Rattle.model.specs.Pages.{pageTimesFrom}
 use Rattle.model.specs.Marks.{goes, isMark}
-use Rattle.model.specs.Memory.{capacity, headerIs, numbersInRange, logLong, indexLong, tableLong, fits}
+use Rattle.model.specs.Memory.{capacity, headerIs, numbersInRange, logLong, indexLong, tableLong, fitsButIndex, fits}
 use Rattle.model.specs.Outset.{filesFrom, latest, earliest, chooseBy}
 use Rattle.model.specs.Between.{recordsBetween}
 use Rattle.model.specs.NetChange.{legalOn, changed, leads, missing, placed, arranged, netChange, changeBytes, changesBytes, netChangeBytes}
@@ -29,5 +29,5 @@ use Rattle.model.specs.Numbering.{opened, nodes, leafNode}
 use Rattle.model.specs.Tree.{allotted, treeOf, withNodes, withTree, withoutNodes, keysUpTo}
 
 unfoldable pub computing : Unit {0}
-unfolding number bytes same refusal firstNo checkedOutcome verdictOutcome positionOutcome tableOutcome viewOutcome netChangeOutcome unitsOutcome differenceOutcome dropMarkedOutcome orderInRange pageSizeInRange rowLimitInRange recordsInRange settingsOf recordBytes recordsBytes recordIn records headerBytes sameRows lacks hasRow countOf putIn without rowBytes rowsBytes tableBytes named table upTo timeslice formed lastFrom isUpdate inTime allowed legalNext legalAfter legalCount pageTimesFrom goes isMark capacity headerIs numbersInRange logLong indexLong tableLong fits filesFrom latest earliest chooseBy recordsBetween legalOn changed leads missing placed arranged netChange changeBytes changesBytes netChangeBytes freshMemory freshOf wellWritten openedMemory openedNumbers clearedMemory openOf appended insertOf deleteOf updateOf answeredTime positionOf tableOf rowsPart viewOf netOf filesIn areasBytes isKept fileIn keepOf staying dropOf dropMarkedOf logAudited tableAudited indexAudited filesAudited entriesZero restAudited auditOf inserted deleted unitsAt difference sumOf sumIn unitsOf differenceOf isRefused refusedBy refusedAmong begun step answerOf run StartFits CallFits marksAt otherMarks heldNext heldAfter some asks saidRefusedBy valuationUpTo cofactorUpTo valuation cofactor opens lastOpened host leafWords takers innerWords opened nodes leafNode allotted treeOf withNodes withTree withoutNodes keysUpTo
+unfolding number bytes same refusal firstNo checkedOutcome verdictOutcome positionOutcome tableOutcome viewOutcome netChangeOutcome unitsOutcome differenceOutcome dropMarkedOutcome orderInRange pageSizeInRange rowLimitInRange recordsInRange settingsOf recordBytes recordsBytes recordIn records headerBytes sameRows lacks hasRow countOf putIn without rowBytes rowsBytes tableBytes named table upTo timeslice formed lastFrom isUpdate inTime allowed legalNext legalAfter legalCount pageTimesFrom goes isMark capacity headerIs numbersInRange logLong indexLong tableLong fitsButIndex fits filesFrom latest earliest chooseBy recordsBetween legalOn changed leads missing placed arranged netChange changeBytes changesBytes netChangeBytes freshMemory freshOf wellWritten openedMemory openedNumbers clearedMemory openOf appended insertOf deleteOf updateOf answeredTime positionOf tableOf rowsPart viewOf netOf filesIn areasBytes isKept fileIn keepOf staying dropOf dropMarkedOf logAudited tableAudited indexAudited filesAudited entriesZero restAudited auditOf inserted deleted unitsAt difference sumOf sumIn unitsOf differenceOf isRefused refusedBy refusedAmong begun step answerOf run StartFits CallFits marksAt otherMarks heldNext heldAfter some asks saidRefusedBy valuationUpTo cofactorUpTo valuation cofactor opens lastOpened host leafWords takers innerWords opened nodes leafNode allotted treeOf withNodes withTree withoutNodes keysUpTo
 computing = tt

@@ -5,6 +5,7 @@ use native.Mathlib.Omega.{arith}
 use native.Mathlib.Nat.{sub-zero}
 use lib.ListN.{length, take}
 use lib.Seq.{length-take-le}
+use Rattle.tree.specs.Places.{stretchOf}
 use Rattle.comparing.proofs.Workspace.{second-half, both-worked-out}
 use borrow.Author.Needs.{needs}
 use Rattle.comparing.proofs.work_out_both.Statement.{statement}
@@ -26,7 +27,7 @@ part-work-out-end : tie.Need-part-work-out-end
 part-work-out-end c = search needs
 
 work-out-requires : tie.Need-work-out-requires
-work-out-requires c κs = search needs
+work-out-requires c κs = (search needs, c .before .before .before .before .before .before .before .before .pre .1)
 
 mul-work-out : tie.Need-mul-work-out
 mul-work-out c = search needs
@@ -41,7 +42,14 @@ part-work-out-end-2 : tie.Need-part-work-out-end-2
 part-work-out-end-2 c = search needs
 
 work-out-requires-2 : tie.Need-work-out-requires-2
-work-out-requires-2 c κs = search needs
+work-out-requires-2 c κs =
+    let w1 = c .before .before .before in
+    let s = w1 .before .before .before .before .before .before .before .before .before in
+    let x = s .args in
+    let size = 8 * x .s .limit in
+    let first : length (take (size - 0) (x .work .now)) ≡ size = length-take-le (size - 0) (x .work .now) (omega (arith, s .pre .0 .work-is)) ∙ sub-zero size in
+    let ly = w1 .work-out .kept .1 .1 .1 .1 .1 .1 .1 .1 .1 .1 .0 ∙ first in
+    (rw (second-half size (x .work .now) (w1 .work-out .last .1 .1 .1 .1 .1 .1 .1 .1 .1 .1 .0) (omega (arith, s .pre .0 .work-is)) ly) (s .pre .0 .second-ready), s .pre .1)
 
 same-length : tie.Need-same-length
 same-length c = search needs
@@ -50,16 +58,16 @@ returns : tie.Need-returns
 returns c =
     let w2 = c .before .before in
     let w1 = w2 .before .before .before .before in
-    let s = w1 .before .before .before .before .before .before .before .before in
+    let s = w1 .before .before .before .before .before .before .before .before .before in
     let x = s .args in
     let size = 8 * x .s .limit in
-    let l : length (x .work .now) ≡ 16 * x .s .limit = s .pre .work-is in
+    let l : length (x .work .now) ≡ 16 * x .s .limit = s .pre .0 .work-is in
     let first : length (take (size - 0) (x .work .now)) ≡ size = length-take-le (size - 0) (x .work .now) (omega arith) ∙ sub-zero size in
-    let ly = w1 .work-out .kept .1 .1 .1 .1 .1 .1 .1 .0 ∙ first in
-    let second = second-half size (x .work .now) (w1 .work-out .last .1 .1 .1 .1 .1 .1 .1 .0) (omega arith) ly in
-    let lz = w2 .work-out2 .kept .1 .1 .1 .1 .1 .1 .1 .0 ∙ second in (
+    let ly = w1 .work-out .kept .1 .1 .1 .1 .1 .1 .1 .1 .1 .1 .0 ∙ first in
+    let second = second-half size (x .work .now) (w1 .work-out .last .1 .1 .1 .1 .1 .1 .1 .1 .1 .1 .0) (omega arith) ly in
+    let lz = w2 .work-out2 .kept .1 .1 .1 .1 .1 .1 .1 .1 .1 .1 .0 ∙ second in (
       (omega (arith, w1 .work-out .ensures .0, first), omega (arith, w2 .work-out2 .ensures .0, second)),
-      both-worked-out (x .s) (x .log .now) (x .index .now) (x .current .now) (x .areas .now) (x .c) (x .a) (x .b) (w1 .work-out .result) (w2 .work-out2 .result) (x .work .now)
+      both-worked-out (x .s) (x .log .now) (stretchOf (x .s .order) (x .extent) (x .starts .now) (x .words) (x .index .now)) (x .current .now) (x .areas .now) (x .c) (x .a) (x .b) (w1 .work-out .result) (w2 .work-out2 .result) (x .work .now)
           l ly lz (w1 .work-out .ensures .1) (w2 .work-out2 .ensures .1),
     )
 

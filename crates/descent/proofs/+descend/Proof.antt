@@ -2,6 +2,7 @@
 -- nothing.
 use Prim.Native.Nat.{ℕ, suc, _-_, _<_}
 use lib.ListN.{length}
+use Rattle.tree.specs.Places.{Reached}
 use Rattle.descent.specs.Descent.{Down}
 use Rattle.descent.proofs.Descents.{raised, down-node, under-low, leaves-few, child-small, child-inside, down-child, found-child}
 use Rattle.descent.proofs.Ends.{down-leaf, found-one}
@@ -20,14 +21,14 @@ use Rattle.descent.proofs.unit_below.Reads as unit-below-reads
 use Rattle.descent.proofs.+descend.{statement}
 use Rattle.descent.proofs.+descend.Tie.{close}
 
-abbrev μ-descend : Measures 2 descend-kinds.ps ℕ
-μ-descend κs a = a .1 .1 .1 .0
+abbrev μ-descend : Measures 4 descend-kinds.ps ℕ
+μ-descend κs a = a .1 .1 .1 .1 .1 .0
 
-abbrev descend-at : ℕ → In 2 descend-kinds.ps
-descend-at t = and 2 descend-kinds.ps (is 2 descend-kinds.ps μ-descend t) descend.Pre
+abbrev descend-at : ℕ → In 4 descend-kinds.ps
+descend-at t = and 4 descend-kinds.ps (is 4 descend-kinds.ps μ-descend t) descend.Pre
 
-abbrev descend-below : ℕ → In 2 descend-kinds.ps
-descend-below t = and 2 descend-kinds.ps (falls 2 descend-kinds.ps _<_ μ-descend t) descend.Pre
+abbrev descend-below : ℕ → In 4 descend-kinds.ps
+descend-below t = and 4 descend-kinds.ps (falls 4 descend-kinds.ps _<_ μ-descend t) descend.Pre
 
 -- what the calls in the body ask and say
 abbrev claims : ℕ → descend-lts.Claims
@@ -49,21 +50,21 @@ claims t = (
 module _ (t : ℕ) where
   -- ---- a leaf
   in-leaf-requires : descend-lts.Need-in-leaf-requires (claims t) (descend-at t) descend.Post
-  in-leaf-requires c κs = down-leaf (rw (c .before .if1 .taken) at (c .before .before .pre .1))
+  in-leaf-requires c κs = down-leaf (rw (c .before .before .if1 .taken) at (c .before .before .before .pre .1))
 
   returns : descend-lts.Need-returns (claims t) (descend-at t) descend.Post
   returns c =
-      let arm = c .before .before in
+      let arm = c .before .before .before in
       found-one (rw (arm .if1 .taken) at (arm .before .pre .1)) (c .in-leaf .ensures)
 
   -- ---- a node, and then its child; n is the point where the node's separators were counted
   in-node-requires : descend-lts.Need-in-node-requires (claims t) (descend-at t) descend.Post
-  in-node-requires c κs = down-node (raised (omega arith) (c .before .before .pre .1))
+  in-node-requires c κs = down-node (raised (omega arith) (c .before .before .before .pre .1))
 
   down : (n : descend-lts.After-in-node (claims t) (descend-at t) descend.Post)
-      → let a = n .before .before .before .args in
-      Down (a .d) (a .k) (length (a .index .now .now)) (suc (a .level - 1)) (a .u) (a .under) (a .first .0) (a .a) (a .r)
-  down n = raised (omega arith) (n .before .before .before .pre .1)
+      → let a = n .before .before .before .before .args in
+      Down (a .d) (a .k) (Reached (a .d) (a .extent) (a .starts .now .now) (length (a .index .now .now))) (suc (a .level - 1)) (a .u) (a .under) (a .first .0) (a .a) (a .r)
+  down n = raised (omega arith) (n .before .before .before .before .pre .1)
 
   child-node-requires : descend-lts.Need-child-node-requires (claims t) (descend-at t) descend.Post
   child-node-requires n κs = omega (arith, child-small (down n) (n .in-node .ensures .upto))
@@ -84,7 +85,7 @@ module _ (t : ℕ) where
   unit-below-requires : descend-lts.Need-unit-below-requires (claims t) (descend-at t) descend.Post
   unit-below-requires c κs =
       let n = c .before .before in
-      (omega arith, (omega arith, n .before .before .before .pre .1 .unit-is))
+      (omega arith, (omega arith, n .before .before .before .before .pre .1 .unit-is))
 
   sub-descend : descend-lts.Need-sub-descend (claims t) (descend-at t) descend.Post
   sub-descend c = search needs
@@ -107,7 +108,7 @@ module _ (t : ℕ) where
   returns-2 c =
       let n = c .before .before .before .before in
       let child = rw (c .before .before .at-most .ensures) at (c .descend .ensures) in
-      found-child (down n) (n .in-node .ensures) child
+      found-child (down n) _ (n .in-node .ensures) child
 
 pub +descend-spec : {M : Type 1} → statement M
 +descend-spec = close μ-descend λ t. descend-lts.spec (claims t)

@@ -1,5 +1,6 @@
 -- `descent::in_leaf` meets its contract. Assumes nothing.
-use Rattle.descent.proofs.Ends.{leaf-number, leaf-long, found-leaf}
+use Rattle.descent.proofs.Ends.{leaf-number, found-leaf}
+use Rattle.tree.proofs.PlaceLaws.{reached-wide}
 use borrow.Author.Needs.{needs}
 use native.Mathlib.Omega.{arith}
 use Rattle.descent.proofs.in_leaf.Statement.{statement}
@@ -22,16 +23,16 @@ at-most-requires c κs = search needs
 
 node-word-requires : tie.Need-node-word-requires
 node-word-requires c κs =
-    let g = c .before .before in
-    omega (arith, leaf-number (g .pre), g .pre .order-low, g .pre .order-high)
+    let g = c .before .before .before in
+    (g .pre .order-low, (g .pre .order-high, (omega (arith, leaf-number (g .pre)), reached-wide (g .pre .reach) (omega arith))))
 
 cast-cut : tie.Need-cast-cut
 cast-cut c = search needs
 
 cut-requires : tie.Need-cut-requires
 cut-requires c κs =
-    let g = c .before .before .before in
-    omega (arith, leaf-long (g .pre), c .node-word .ensures .0, c .before .at-most .ensures)
+    let g = c .before .before .before .before in
+    omega (arith, g .pre .reach .inside, c .node-word .ensures .0, c .before .at-most .ensures)
 
 cast-result : tie.Need-cast-result
 cast-result c = search needs
@@ -43,7 +44,7 @@ returns : tie.Need-returns
 returns c =
     let used = c .before .before .at-most .ensures in
     let word = c .before .node-word .ensures .0 in
-    found-leaf (c .before .before .before .before .pre) (rw (← used, ← word) (c .cut .ensures))
+    found-leaf (c .before .before .before .before .before .pre) _ (rw (← used, ← word) (c .cut .ensures))
 
 pub in-leaf-spec : {M : Type 1} → statement M
 in-leaf-spec =

@@ -30,7 +30,7 @@ div-n c = search needs
 
 top-of-requires : tie.Need-top-of-requires
 top-of-requires c κs =
-    let g = c .before .before in
+    let g = c .before .before .before in
     (g .pre .order-low, (g .pre .order-high, le-trans (leaves-le (g .args .d) (g .args .k) (g .pre .order-low)) (g .pre .few)))
 
 cast-descend : tie.Need-cast-descend
@@ -38,13 +38,13 @@ cast-descend c = search needs
 
 descend-requires : tie.Need-descend-requires
 descend-requires c κs =
-    let top = c .before .top-of in
-    down-top (c .before .before .before .before .pre) (omega arith) (top .ensures .0) (top .ensures .1 .0) (top .ensures .1 .1)
+    let top = c .before .before .top-of in
+    down-top (c .before .before .before .before .before .before .pre) (omega arith) (top .ensures .0) (top .ensures .1 .0) (top .ensures .1 .1)
 
 returns-2 : tie.Need-returns-2
 returns-2 c =
-    let top = c .before in
-    counted-all (top .before .before .before .before .pre) (omega arith) (c .descend .ensures)
+    let top = c .before .before in
+    counted-all (top .before .before .before .before .before .pre) (omega arith) (c .descend .ensures)
 
 pub keys-up-to-spec : {M : Type 1} → statement M
 keys-up-to-spec =

@@ -16,12 +16,12 @@ refused-requires c κs = search needs
 
 returns : tie.Need-returns
 unfolding verdictOutcome refusal
-returns c catalogue same =
+returns c index long catalogue same =
     let e1 = c .before in
     let q = e1 .before in
-    let a = q .before .before .before .before .before .args in
+    let a = q .before .before .before .before .args in
     rw (c .refused .ensures)
-    (drop-header (a .s) (a .log .now) (a .index .now) (a .current .now) catalogue (a .areas .now) (a .c) same (a .t) (sym (q .is-sound .ensures .0) ∙ e1 .if1 .left))
+    (drop-header (a .s) (a .log .now) index (a .current .now) catalogue (a .areas .now) (a .c) same (a .t) (rw long (sym (q .is-sound .ensures .0) ∙ e1 .if1 .left)))
 
 cast-files : tie.Need-cast-files
 cast-files c = search needs
@@ -36,14 +36,14 @@ refused-requires-2 c κs = search needs
 
 returns-2 : tie.Need-returns-2
 unfolding verdictOutcome refusal
-returns-2 c catalogue same =
+returns-2 c index long catalogue same =
     let e2 = c .before in
     let k = e2 .before in
     let t1 = k .before .before in
     let q = t1 .before in
-    let a = q .before .before .before .before .before .args in
+    let a = q .before .before .before .before .args in
     rw (c .refused2 .ensures)
-    (drop-none (a .s) (a .log .now) (a .index .now) (a .current .now) catalogue (a .areas .now) (a .c) same (sym (q .is-sound .ensures .0) ∙ t1 .if1 .taken) (q .is-sound .ensures .1 (t1 .if1 .taken)) (a .t) (sym (k .is-kept .ensures) ∙ e2 .if2 .left))
+    (drop-none (a .s) (a .log .now) index (a .current .now) catalogue (a .areas .now) (a .c) same (rw long (sym (q .is-sound .ensures .0) ∙ t1 .if1 .taken)) (rw long (q .is-sound .ensures .1 (t1 .if1 .taken))) (a .t) (sym (k .is-kept .ensures) ∙ e2 .if2 .left))
 
 let-go-requires : tie.Need-let-go-requires
 let-go-requires c κs =
@@ -62,14 +62,14 @@ same-length c = search needs
 
 returns-3 : tie.Need-returns-3
 unfolding verdictOutcome staysWhen
-returns-3 c catalogue same =
+returns-3 c index long catalogue same =
     let gone = c .before .before .before .before .before in
     let t2 = gone .before .before in
     let k = t2 .before in
     let t1 = k .before .before in
     let q = t1 .before in
-    let a = q .before .before .before .before .before .args in
-    drop-accepts (a .s) (a .log .now) (a .index .now) (a .current .now) catalogue (a .areas .now) (a .c) same (sym (q .is-sound .ensures .0) ∙ t1 .if1 .taken) (q .is-sound .ensures .1 (t1 .if1 .taken)) (a .t) (gone .let-go .result)
+    let a = q .before .before .before .before .args in
+    drop-accepts (a .s) (a .log .now) index (a .current .now) catalogue (a .areas .now) (a .c) same (rw long (sym (q .is-sound .ensures .0) ∙ t1 .if1 .taken)) (rw long (q .is-sound .ensures .1 (t1 .if1 .taken))) (a .t) (gone .let-go .result)
     (sym (k .is-kept .ensures) ∙ t2 .if2 .taken) (gone .let-go .ensures) (c .counted .ensures)
 
 pub drop-spec : {M : Type 1} → statement M

@@ -14,22 +14,22 @@ is-sound-requires c κs = search needs
 
 returns : tie.Need-returns
 unfolding dropMarkedOutcome refusal
-returns c catalogue same =
+returns c index long catalogue same =
     let q = c .before in
-    let a = q .before .before .before .before .before .args in
-    marked-header (a .s) (a .log .now) (a .index .now) (a .current .now) catalogue (a .areas .now) (a .c) same (a .mark) (sym (q .is-sound .ensures .0) ∙ c .if1 .left)
+    let a = q .before .before .before .before .args in
+    marked-header (a .s) (a .log .now) index (a .current .now) catalogue (a .areas .now) (a .c) same (a .mark) (rw long (sym (q .is-sound .ensures .0) ∙ c .if1 .left))
 
 goes-requires : tie.Need-goes-requires
 goes-requires c κs = search needs
 
 returns-2 : tie.Need-returns-2
 unfolding dropMarkedOutcome refusal
-returns-2 c catalogue same =
+returns-2 c index long catalogue same =
     let k = c .before in
     let t1 = k .before in
     let q = t1 .before in
-    let a = q .before .before .before .before .before .args in
-    marked-wrong (a .s) (a .log .now) (a .index .now) (a .current .now) catalogue (a .areas .now) (a .c) same (sym (q .is-sound .ensures .0) ∙ t1 .if1 .taken) (q .is-sound .ensures .1 (t1 .if1 .taken)) (a .mark) (sym (k .goes .ensures) ∙ c .if2 .left)
+    let a = q .before .before .before .before .args in
+    marked-wrong (a .s) (a .log .now) index (a .current .now) catalogue (a .areas .now) (a .c) same (rw long (sym (q .is-sound .ensures .0) ∙ t1 .if1 .taken)) (rw long (q .is-sound .ensures .1 (t1 .if1 .taken))) (a .mark) (sym (k .goes .ensures) ∙ c .if2 .left)
 
 let-go-requires : tie.Need-let-go-requires
 let-go-requires c κs =
@@ -56,14 +56,14 @@ same-length c = search needs
 
 returns-3 : tie.Need-returns-3
 unfolding dropMarkedOutcome staysWhen
-returns-3 c catalogue same =
+returns-3 c index long catalogue same =
     let left = c .before .before .before .before .before .before in
     let t2 = left .before .before in
     let k = t2 .before in
     let t1 = k .before in
     let q = t1 .before in
-    let a = q .before .before .before .before .before .args in
-    marked-accepts (a .s) (a .log .now) (a .index .now) (a .current .now) catalogue (a .areas .now) (a .c) same (sym (q .is-sound .ensures .0) ∙ t1 .if1 .taken) (q .is-sound .ensures .1 (t1 .if1 .taken)) (a .mark) (left .let-go .result) _
+    let a = q .before .before .before .before .args in
+    marked-accepts (a .s) (a .log .now) index (a .current .now) catalogue (a .areas .now) (a .c) same (rw long (sym (q .is-sound .ensures .0) ∙ t1 .if1 .taken)) (rw long (q .is-sound .ensures .1 (t1 .if1 .taken))) (a .mark) (left .let-go .result) _
     (sym (k .goes .ensures) ∙ t2 .if2 .taken) (left .let-go .ensures) (c .counted .ensures) refl
 
 pub drop-marked-spec : {M : Type 1} → statement M

@@ -1,15 +1,27 @@
 -- `filing::keep` meets its promise: each refusal is the first question answered no, and else the file is kept. Assumes nothing.
-use Prim.Native.Nat.{_+_}
+use Prim.Native.Nat.{ℕ, _+_}
 use mathlib.Core.Path.{_≡_, refl, sym, _∙_}
+use mathlib.Core.List.{List}
 use native.Mathlib.Omega.{arith}
 use lib.ListN.{length}
 use Rattle.model.specs.Answers.{verdictOutcome, refusal}
+use Rattle.tree.specs.Places.{stretchOf}
+use Rattle.tree.proofs.Stretches.{stretch-length}
 use Rattle.limits.proofs.FitLaws.{capacity-sixteen, capacity-entries, capacity-areas}
 use Rattle.tables.proofs.Answers.{ready-of}
 use Rattle.filing.proofs.Calls.{keep-header, keep-late, keep-wrong-mark, keep-zero, keep-twice, keep-full, keep-accepts}
 use borrow.Author.Needs.{needs}
 use Rattle.filing.proofs.keep.Statement.{statement}
 use Rattle.filing.proofs.keep.Tie as tie
+
+-- the stretch that the index is seen as, and how long it is
+abbrev stretch : tie.Start → List ℕ
+stretch start =
+    let a = start .args in
+    stretchOf (a .s .order) (a .extent) (a .starts .now) (a .words) (a .index .now)
+
+long : (start : tie.Start) → length (stretch start) ≡ start .args .words
+long start = stretch-length (start .pre) (start .args .index .now) refl
 
 is-sound-requires : tie.Need-is-sound-requires
 is-sound-requires c κs = search needs
@@ -22,9 +34,10 @@ unfolding verdictOutcome refusal
 returns c catalogue same =
     let e1 = c .before in
     let q = e1 .before in
-    let a = q .before .before .before .before .before .args in
+    let start = q .before .before .before .before .before .before in
+    let a = start .args in
     rw (c .refused .ensures)
-    (keep-header (a .s) (a .log .now) (a .index .now) (a .current .now) catalogue (a .areas .now) (a .c) same (a .t) (a .mark) (sym (q .is-sound .ensures .0) ∙ e1 .if1 .left))
+    (keep-header (a .s) (a .log .now) (stretch start) (a .current .now) catalogue (a .areas .now) (a .c) same (a .t) (a .mark) (rw (long start) (sym (q .is-sound .ensures .0) ∙ e1 .if1 .left)))
 
 refused-requires-2 : tie.Need-refused-requires-2
 refused-requires-2 c κs = search needs
@@ -35,9 +48,10 @@ returns-2 c catalogue same =
     let t2 = c .before in
     let t1 = t2 .before .before in
     let q = t1 .before in
-    let a = q .before .before .before .before .before .args in
+    let start = q .before .before .before .before .before .before in
+    let a = start .args in
     rw (c .refused2 .ensures)
-    (keep-late (a .s) (a .log .now) (a .index .now) (a .current .now) catalogue (a .areas .now) (a .c) same (sym (q .is-sound .ensures .0) ∙ t1 .if1 .taken) (q .is-sound .ensures .1 (t1 .if1 .taken)) (a .t) (a .mark) (t2 .if2 .taken))
+    (keep-late (a .s) (a .log .now) (stretch start) (a .current .now) catalogue (a .areas .now) (a .c) same (rw (long start) (sym (q .is-sound .ensures .0) ∙ t1 .if1 .taken)) (rw (long start) (q .is-sound .ensures .1 (t1 .if1 .taken))) (a .t) (a .mark) (t2 .if2 .taken))
 
 is-mark-requires : tie.Need-is-mark-requires
 is-mark-requires c κs = search needs
@@ -53,9 +67,10 @@ returns-3 c catalogue same =
     let e2 = m .before in
     let t1 = e2 .before .before in
     let q = t1 .before in
-    let a = q .before .before .before .before .before .args in
+    let start = q .before .before .before .before .before .before in
+    let a = start .args in
     rw (c .refused3 .ensures)
-    (keep-wrong-mark (a .s) (a .log .now) (a .index .now) (a .current .now) catalogue (a .areas .now) (a .c) same (sym (q .is-sound .ensures .0) ∙ t1 .if1 .taken) (q .is-sound .ensures .1 (t1 .if1 .taken)) (a .t) (a .mark) (e2 .if2 .left) (sym (m .is-mark .ensures) ∙ e3 .if3 .left))
+    (keep-wrong-mark (a .s) (a .log .now) (stretch start) (a .current .now) catalogue (a .areas .now) (a .c) same (rw (long start) (sym (q .is-sound .ensures .0) ∙ t1 .if1 .taken)) (rw (long start) (q .is-sound .ensures .1 (t1 .if1 .taken))) (a .t) (a .mark) (e2 .if2 .left) (sym (m .is-mark .ensures) ∙ e3 .if3 .left))
 
 refused-requires-4 : tie.Need-refused-requires-4
 refused-requires-4 c κs = search needs
@@ -69,9 +84,10 @@ returns-4 c catalogue same =
     let e2 = m .before in
     let t1 = e2 .before .before in
     let q = t1 .before in
-    let a = q .before .before .before .before .before .args in
+    let start = q .before .before .before .before .before .before in
+    let a = start .args in
     rw (c .refused4 .ensures)
-    (keep-zero (a .s) (a .log .now) (a .index .now) (a .current .now) catalogue (a .areas .now) (a .c) same (sym (q .is-sound .ensures .0) ∙ t1 .if1 .taken) (q .is-sound .ensures .1 (t1 .if1 .taken)) (a .t) (a .mark) (e2 .if2 .left) (sym (m .is-mark .ensures) ∙ t3 .if3 .taken) (t4 .if4 .taken))
+    (keep-zero (a .s) (a .log .now) (stretch start) (a .current .now) catalogue (a .areas .now) (a .c) same (rw (long start) (sym (q .is-sound .ensures .0) ∙ t1 .if1 .taken)) (rw (long start) (q .is-sound .ensures .1 (t1 .if1 .taken))) (a .t) (a .mark) (e2 .if2 .left) (sym (m .is-mark .ensures) ∙ t3 .if3 .taken) (t4 .if4 .taken))
 
 cast-files : tie.Need-cast-files
 cast-files c = search needs
@@ -95,9 +111,10 @@ returns-5 c catalogue same =
     let e2 = m .before in
     let t1 = e2 .before .before in
     let q = t1 .before in
-    let a = q .before .before .before .before .before .args in
+    let start = q .before .before .before .before .before .before in
+    let a = start .args in
     rw (c .refused5 .ensures)
-    (keep-twice (a .s) (a .log .now) (a .index .now) (a .current .now) catalogue (a .areas .now) (a .c) same (sym (q .is-sound .ensures .0) ∙ t1 .if1 .taken) (q .is-sound .ensures .1 (t1 .if1 .taken)) (a .t) (a .mark) (e2 .if2 .left) (sym (m .is-mark .ensures) ∙ t3 .if3 .taken) (e4 .if4 .left) (sym (k .is-kept .ensures) ∙ t5 .if5 .taken))
+    (keep-twice (a .s) (a .log .now) (stretch start) (a .current .now) catalogue (a .areas .now) (a .c) same (rw (long start) (sym (q .is-sound .ensures .0) ∙ t1 .if1 .taken)) (rw (long start) (q .is-sound .ensures .1 (t1 .if1 .taken))) (a .t) (a .mark) (e2 .if2 .left) (sym (m .is-mark .ensures) ∙ t3 .if3 .taken) (e4 .if4 .left) (sym (k .is-kept .ensures) ∙ t5 .if5 .taken))
 
 capacity-requires : tie.Need-capacity-requires
 capacity-requires c κs =
@@ -121,10 +138,11 @@ returns-6 c catalogue same =
     let e2 = m .before in
     let t1 = e2 .before .before in
     let q = t1 .before in
-    let a = q .before .before .before .before .before .args in
+    let start = q .before .before .before .before .before .before in
+    let a = start .args in
     let none = rw (full .capacity .ensures .0) at (e6 .if6 .left) in
     rw (c .refused6 .ensures)
-    (keep-full (a .s) (a .log .now) (a .index .now) (a .current .now) catalogue (a .areas .now) (a .c) same (sym (q .is-sound .ensures .0) ∙ t1 .if1 .taken) (q .is-sound .ensures .1 (t1 .if1 .taken)) (a .t) (a .mark) (e2 .if2 .left) (sym (m .is-mark .ensures) ∙ t3 .if3 .taken) (e4 .if4 .left) (sym (k .is-kept .ensures) ∙ e5 .if5 .left) (omega (arith, none)))
+    (keep-full (a .s) (a .log .now) (stretch start) (a .current .now) catalogue (a .areas .now) (a .c) same (rw (long start) (sym (q .is-sound .ensures .0) ∙ t1 .if1 .taken)) (rw (long start) (q .is-sound .ensures .1 (t1 .if1 .taken))) (a .t) (a .mark) (e2 .if2 .left) (sym (m .is-mark .ensures) ∙ t3 .if3 .taken) (e4 .if4 .left) (sym (k .is-kept .ensures) ∙ e5 .if5 .left) (omega (arith, none)))
 
 keep-file-requires : tie.Need-keep-file-requires
 keep-file-requires c κs =
@@ -133,12 +151,13 @@ keep-file-requires c κs =
     let e2 = full .before .before .before .before .before .before .before in
     let t1 = e2 .before .before in
     let q = t1 .before in
-    let a = q .before .before .before .before .before .args in
+    let start = q .before .before .before .before .before .before in
+    let a = start .args in
     let fit = q .is-sound .ensures .1 (t1 .if1 .taken) in
     let room = rw (full .capacity .ensures .0) at (t6 .if6 .taken) in
     let more = capacity-areas (a .s .limit) (a .c .lent) (length (a .areas .now)) (a .s .files + 1) (omega (arith, room)) (fit .in-range .limit-low) in
     let few = capacity-sixteen (a .s .limit) (a .c .lent) (length (a .areas .now)) (a .s .files + 1) (omega (arith, room)) in
-    (ready-of fit (e2 .if2 .left) refl, (omega (arith, few), more))
+    (ready-of fit (e2 .if2 .left) refl, (start .pre, (omega (arith, few), more)))
 
 add-counted : tie.Need-add-counted
 add-counted c = search needs
@@ -163,12 +182,13 @@ returns-7 c catalogue same =
     let e2 = m .before in
     let t1 = e2 .before .before in
     let q = t1 .before in
-    let a = q .before .before .before .before .before .args in
+    let start = q .before .before .before .before .before .before in
+    let a = start .args in
     let room = rw (full .capacity .ensures .0) at (t6 .if6 .taken) in
     let entry = capacity-entries (a .s .limit) (a .c .lent) (length (a .areas .now)) (a .s .files + 1) (omega (arith, room)) in
     let lent : a .c .lent ≡ length catalogue = rw same in
     rw (c .counted .ensures)
-    (keep-accepts (a .s) (a .log .now) (a .index .now) (a .current .now) catalogue (a .areas .now) (a .c) same (sym (q .is-sound .ensures .0) ∙ t1 .if1 .taken) (q .is-sound .ensures .1 (t1 .if1 .taken)) (a .t) (a .mark) (e2 .if2 .left) (sym (m .is-mark .ensures) ∙ t3 .if3 .taken) (e4 .if4 .left) (sym (k .is-kept .ensures) ∙ e5 .if5 .left) room (file .keep-file .ensures catalogue same (omega (arith, entry))))
+    (keep-accepts (a .s) (a .log .now) (stretch start) (a .current .now) catalogue (a .areas .now) (a .c) same (rw (long start) (sym (q .is-sound .ensures .0) ∙ t1 .if1 .taken)) (rw (long start) (q .is-sound .ensures .1 (t1 .if1 .taken))) (a .t) (a .mark) (e2 .if2 .left) (sym (m .is-mark .ensures) ∙ t3 .if3 .taken) (e4 .if4 .left) (sym (k .is-kept .ensures) ∙ e5 .if5 .left) room (file .keep-file .ensures catalogue same (omega (arith, entry))))
 
 pub keep-spec : {M : Type 1} → statement M
 keep-spec =

@@ -1,4 +1,5 @@
 -- `numbered::drop` meets its contract. Assumes nothing.
+use mathlib.Core.Path.{refl}
 use borrow.Author.Needs.{needs}
 use Rattle.numbered.proofs.drop.Statement.{statement}
 use Rattle.numbered.proofs.drop.Tie as tie
@@ -19,7 +20,7 @@ returns c catalogue e =
       numbers = p .drop .result .numbers;
       verdict = p .drop .result .verdict;
       is = c .refile .ensures .0;
-      kept = rw (c .refile .ensures .1) (p .drop .ensures catalogue e);
+      kept = rw (c .refile .ensures .1) (p .drop .ensures _ refl catalogue e);
     }
 
 pub drop-spec : {M : Type 1} → statement M

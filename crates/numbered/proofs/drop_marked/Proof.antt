@@ -1,4 +1,5 @@
 -- `numbered::drop_marked` meets its contract. Assumes nothing.
+use mathlib.Core.Path.{refl}
 use borrow.Author.Needs.{needs}
 use Rattle.numbered.proofs.drop_marked.Statement.{statement}
 use Rattle.numbered.proofs.drop_marked.Tie as tie
@@ -19,7 +20,7 @@ returns c catalogue e =
       numbers = p .drop-marked .result .numbers;
       answer = p .drop-marked .result .answer;
       is = c .clear-out .ensures .0;
-      kept = rw (c .clear-out .ensures .1) (p .drop-marked .ensures catalogue e);
+      kept = rw (c .clear-out .ensures .1) (p .drop-marked .ensures _ refl catalogue e);
     }
 
 pub drop-marked-spec : {M : Type 1} → statement M

@@ -1,10 +1,15 @@
 -- `numbered::insert` meets its contract. Assumes nothing.
+use Rattle.tree.specs.Places.{stretchOf}
+use Rattle.tree.proofs.Stretches.{seen-stretch}
 use borrow.Author.Needs.{needs}
 use Rattle.numbered.proofs.insert.Statement.{statement}
 use Rattle.numbered.proofs.insert.Tie as tie
 
+slice-aggregate-insert : tie.Need-slice-aggregate-insert
+slice-aggregate-insert c = search needs
+
 insert-requires : tie.Need-insert-requires
-insert-requires c κs = search needs
+insert-requires c κs = seen-stretch _ _ _
 
 append-out-requires : tie.Need-append-out-requires
 append-out-requires c κs = search needs
@@ -19,9 +24,10 @@ same-length-3 : tie.Need-same-length-3
 same-length-3 c = search needs
 
 returns : tie.Need-returns
+unfolding stretchOf
 returns c catalogue area e g =
     let p = c .before .before .before .before .before .before .before in
-    record { numbers = p .insert .result .numbers; verdict = p .insert .result .verdict; is = c .append-out .ensures; kept = p .insert .ensures catalogue area e g }
+    record { numbers = p .insert .result .numbers; verdict = p .insert .result .verdict; is = c .append-out .ensures; kept = p .insert .ensures .0 catalogue area e g }
 
 pub insert-spec : {M : Type 1} → statement M
-insert-spec = tie.close (tie.spec insert-requires append-out-requires same-length same-length-2 same-length-3 returns)
+insert-spec = tie.close (tie.spec slice-aggregate-insert insert-requires append-out-requires same-length same-length-2 same-length-3 returns)

@@ -1,6 +1,8 @@
 -- `store::make` meets its contract: each arm is the call of its name, whose promise is what `Carried` names. Assumes nothing.
 use mathlib.Core.Path.{refl}
 use Rattle.model.specs.Chains.{Carried}
+use Rattle.tree.specs.Places.{stretchOf}
+use Rattle.tree.proofs.Stretches.{stretch-length}
 use Rattle.store.specs.Making.{callOf, saidOf, OutputsKept}
 use Rattle.store.proofs.Makings.{written-same, lent-same}
 use borrow.Author.Needs.{needs}
@@ -137,12 +139,12 @@ returns : tie.Need-returns
 unfolding callOf saidOf OutputsKept
 returns c catalogue e =
     let i = c .before .before .before .before .before .before .before in
-    let a = i .before .before .before .before .before .before .before .before .before .before .before .before .before .args in
+    let a = i .before .before .before .before .before .before .before .before .before .before .before .before .before .before .args in
     let g = i .before .before .before .before .before .call .given .1 in
     record {
       carried =
           rw (g, c .appended .ensures, written-same catalogue e)
-          (Carried.insert _ _ _ (i .insert .ensures catalogue (a .areas .now) (lent-same catalogue e) refl));
+          (Carried.insert _ _ _ (i .insert .ensures .0 catalogue (a .areas .now) (lent-same catalogue e) refl));
       outputs = rw g (refl, refl);
     }
 
@@ -159,12 +161,12 @@ returns-2 : tie.Need-returns-2
 unfolding callOf saidOf OutputsKept
 returns-2 c catalogue e =
     let i = c .before .before .before .before .before .before .before in
-    let a = i .before .before .before .before .before .before .before .before .before .before .before .before .before .args in
+    let a = i .before .before .before .before .before .before .before .before .before .before .before .before .before .before .args in
     let g = i .before .before .before .before .before .call2 .given .1 in
     record {
       carried =
           rw (g, c .appended2 .ensures, written-same catalogue e)
-          (Carried.delete _ _ (i .delete .ensures catalogue (a .areas .now) (lent-same catalogue e) refl));
+          (Carried.delete _ _ (i .delete .ensures .0 catalogue (a .areas .now) (lent-same catalogue e) refl));
       outputs = rw g (refl, refl);
     }
 
@@ -181,12 +183,12 @@ returns-3 : tie.Need-returns-3
 unfolding callOf saidOf OutputsKept
 returns-3 c catalogue e =
     let i = c .before .before .before .before .before .before .before in
-    let a = i .before .before .before .before .before .before .before .before .before .before .before .before .before .args in
+    let a = i .before .before .before .before .before .before .before .before .before .before .before .before .before .before .args in
     let g = i .before .before .before .before .before .call3 .given .1 in
     record {
       carried =
           rw (g, c .appended3 .ensures, written-same catalogue e)
-          (Carried.update _ _ _ (i .update .ensures catalogue (a .areas .now) (lent-same catalogue e) refl));
+          (Carried.update _ _ _ (i .update .ensures .0 catalogue (a .areas .now) (lent-same catalogue e) refl));
       outputs = rw g (refl, refl);
     }
 
@@ -203,7 +205,7 @@ returns-4 : tie.Need-returns-4
 unfolding callOf saidOf OutputsKept
 returns-4 c catalogue e =
     let q = c .before in
-    let a = c .before .before .before .before .before .before .before .before .before .before .before .before .before .before .args in
+    let a = c .before .before .before .before .before .before .before .before .before .before .before .before .before .before .before .args in
     let g = c .before .before .before .before .before .before .call4 .given .1 in
     record {
       carried = rw (g, c .answered .ensures, written-same catalogue e) (Carried.position _ (q .position .ensures catalogue (a .areas .now) (lent-same catalogue e) refl));
@@ -229,7 +231,7 @@ returns-5 : tie.Need-returns-5
 unfolding callOf saidOf OutputsKept
 returns-5 c catalogue e =
     let q = c .before .before .before in
-    let a = c .before .before .before .before .before .before .before .before .before .before .before .before .before .before .before .before .before .before .args in
+    let a = c .before .before .before .before .before .before .before .before .before .before .before .before .before .before .before .before .before .before .before .args in
     let g = c .before .before .before .before .before .before .before .before .before .before .call5 .given .1 in
     record {
       carried = rw (g, c .answered2 .ensures, written-same catalogue e) (Carried.table _ (a .out .now) (q .table .ensures catalogue e));
@@ -252,7 +254,7 @@ returns-6 : tie.Need-returns-6
 unfolding callOf saidOf OutputsKept
 returns-6 c catalogue e =
     let q = c .before in
-    let a = c .before .before .before .before .before .before .before .before .before .before .before .before .before .before .before .args in
+    let a = c .before .before .before .before .before .before .before .before .before .before .before .before .before .before .before .before .args in
     let g = c .before .before .before .before .before .before .before .call6 .given .1 in
     record {
       carried = rw (g, c .answered3 .ensures, written-same catalogue e) (Carried.view _ (q .view .ensures catalogue e));
@@ -281,7 +283,7 @@ returns-7 : tie.Need-returns-7
 unfolding callOf saidOf OutputsKept
 returns-7 c catalogue e =
     let q = c .before .before .before .before .before in
-    let a = c .before .before .before .before .before .before .before .before .before .before .before .before .before .before .before .before .before .before .before .before .before .args in
+    let a = c .before .before .before .before .before .before .before .before .before .before .before .before .before .before .before .before .before .before .before .before .before .before .args in
     let g = c .before .before .before .before .before .before .before .before .before .before .before .before .before .call7 .given .1 in
     record {
       carried = rw (g, c .answered4 .ensures, written-same catalogue e) (Carried.netChange _ _ (a .out .now) (a .work .now) (q .net-change .ensures catalogue e));
@@ -363,18 +365,21 @@ same-length-41 c = search needs
 same-length-42 : tie.Need-same-length-42
 same-length-42 c = search needs
 
-same-length-43 : tie.Need-same-length-43
-same-length-43 c = search needs
-
 returns-11 : tie.Need-returns-11
 unfolding callOf saidOf OutputsKept
 returns-11 c catalogue e =
     let q = c .before .before .before in
-    let g = c .before .before .before .before .before .before .before .before .before .call11 .given .1 in
+    let start = c .before .before .before .before .before .before .before .before .before .before .before .before .before .before .before .before .before in
+    let a = start .args in
+    let g = c .before .before .before .before .before .before .before .before .call11 .given .1 in
+    let index = stretchOf (a .s .order) (a .extent) (a .starts .now) (a .words) (a .index .now) in
     record {
-      carried = rw (g, c .filed2 .ensures) (Carried.drop _ (q .drop .ensures catalogue e));
+      carried = rw (g, c .filed2 .ensures) (Carried.drop _ (q .drop .ensures index (stretch-length (start .pre) (a .index .now) refl) catalogue e));
       outputs = rw g (refl, refl);
     }
+
+same-length-43 : tie.Need-same-length-43
+same-length-43 c = search needs
 
 same-length-44 : tie.Need-same-length-44
 same-length-44 c = search needs
@@ -382,21 +387,24 @@ same-length-44 c = search needs
 same-length-45 : tie.Need-same-length-45
 same-length-45 c = search needs
 
+returns-12 : tie.Need-returns-12
+unfolding callOf saidOf OutputsKept
+returns-12 c catalogue e =
+    let q = c .before .before .before in
+    let start = c .before .before .before .before .before .before .before .before .before .before .before .before .before .before .before .before .before in
+    let a = start .args in
+    let g = c .before .before .before .before .before .before .before .before .call12 .given .1 in
+    let index = stretchOf (a .s .order) (a .extent) (a .starts .now) (a .words) (a .index .now) in
+    record {
+      carried = rw (g, c .cleared .ensures) (Carried.dropMarked _ (q .drop-marked .ensures index (stretch-length (start .pre) (a .index .now) refl) catalogue e));
+      outputs = rw g (refl, refl);
+    }
+
 same-length-46 : tie.Need-same-length-46
 same-length-46 c = search needs
 
 same-length-47 : tie.Need-same-length-47
 same-length-47 c = search needs
-
-returns-12 : tie.Need-returns-12
-unfolding callOf saidOf OutputsKept
-returns-12 c catalogue e =
-    let q = c .before .before .before in
-    let g = c .before .before .before .before .before .before .before .before .before .call12 .given .1 in
-    record {
-      carried = rw (g, c .cleared .ensures) (Carried.dropMarked _ (q .drop-marked .ensures catalogue e));
-      outputs = rw g (refl, refl);
-    }
 
 same-length-48 : tie.Need-same-length-48
 same-length-48 c = search needs
@@ -404,17 +412,11 @@ same-length-48 c = search needs
 same-length-49 : tie.Need-same-length-49
 same-length-49 c = search needs
 
-same-length-50 : tie.Need-same-length-50
-same-length-50 c = search needs
-
-same-length-51 : tie.Need-same-length-51
-same-length-51 c = search needs
-
 returns-13 : tie.Need-returns-13
 unfolding callOf saidOf OutputsKept
 returns-13 c catalogue e =
     let q = c .before in
-    let a = c .before .before .before .before .before .before .before .before .before .before .before .before .before .before .args in
+    let a = c .before .before .before .before .before .before .before .before .before .before .before .before .before .before .before .args in
     let g = c .before .before .before .before .before .before .enum-told .given .1 in
     record {
       carried = rw (g, c .answered7 .ensures, written-same catalogue e) (Carried.audit (q .audit .ensures catalogue e));
@@ -516,15 +518,13 @@ make-spec =
     same-length-40
     same-length-41
     same-length-42
-    same-length-43
     returns-11
+    same-length-43
     same-length-44
     same-length-45
+    returns-12
     same-length-46
     same-length-47
-    returns-12
     same-length-48
     same-length-49
-    same-length-50
-    same-length-51
     returns-13)

@@ -1,9 +1,10 @@
 -- `tree::append` meets its contract: a new leaf, or the next word of the last one. Assumes nothing.
 use Prim.Native.Nat.{_-_, _%_}
-use native.Mathlib.Nat.{le-trans, div-le-self, mod-lt}
+use native.Mathlib.Nat.{le-refl, le-trans, div-le-self, mod-lt}
 use borrow.Author.Tests.{eq-eqb, ne-eqb}
 use Rattle.tree.specs.Append.{appendOf}
-use Rattle.tree.proofs.Rooms.{needed-next, leaf-small, leaf-fits}
+use Rattle.tree.proofs.Rooms.{needed-next, leaf-small, node-reach, node-inside}
+use Rattle.tree.proofs.PlaceLaws.{reached-wide}
 use borrow.Author.Needs.{needs}
 use native.Mathlib.Omega.{arith}
 use Rattle.tree.proofs.append.Statement.{statement}
@@ -32,13 +33,13 @@ rem-i c = search needs
 
 leaf-node-requires : tie.Need-leaf-node-requires
 leaf-node-requires c κs =
-    let g = c .before in
+    let g = c .before .before in
     let a = g .args in
     (g .pre .order-low, (g .pre .order-high, le-trans (div-le-self (a .k) (a .d - 1)) (omega (arith, g .pre .few))))
 
 put-leaf-requires : tie.Need-put-leaf-requires
 put-leaf-requires c κs =
-    let g = c .before .before .before .before in
+    let g = c .before .before .before .before .before in
     let a = g .args in
     needed-next (a .d) (a .k) _ _ (g .pre) (c .before .before .leaf-node .ensures .0)
 
@@ -48,41 +49,41 @@ same-length c = search needs
 returns : tie.Need-returns
 unfolding appendOf
 returns c =
-    let g = c .before .before .before .before .before .before .before in
+    let g = c .before .before .before .before .before .before .before .before in
     let a = g .args in
     rw (eq-eqb (a .k % (a .d - 1)) 0 (omega arith)) (c .before .before .put-leaf .ensures)
 
 node-word-requires : tie.Need-node-word-requires
 node-word-requires c κs =
-    let g = c .before .before .before in
+    let g = c .before .before .before .before in
     let a = g .args in
     let h = needed-next (a .d) (a .k) _ _ (g .pre) (c .before .leaf-node .ensures .0) in
-    omega (arith, leaf-small _ _ _ _ h)
+    (g .pre .order-low, (g .pre .order-high, (omega (arith, leaf-small _ _ _ _ h), reached-wide (node-reach _ _ _ _ h (le-refl _)) (omega arith))))
 
 cast-index : tie.Need-cast-index
 cast-index c =
-    let g = c .before .before .before .before in
+    let g = c .before .before .before .before .before in
     let a = g .args in
     omega (arith, mod-lt (a .k) {m = a .d - 1} (omega (arith, g .pre .order-low)), g .pre .order-high)
 
 add-index : tie.Need-add-index
 add-index c =
-    let g = c .before .before .before .before in
+    let g = c .before .before .before .before .before in
     let a = g .args in
-    omega (arith, c .node-word .ensures .1, mod-lt (a .k) {m = a .d - 1} (omega (arith, g .pre .order-low)), g .pre .order-high)
+    omega (arith, node-inside (needed-next (a .d) (a .k) _ _ (g .pre) (c .before .before .leaf-node .ensures .0)) (c .node-word .ensures .0) (le-refl _), mod-lt (a .k) {m = a .d - 1} (omega (arith, g .pre .order-low)), g .pre .order-high)
 
 mul-index : tie.Need-mul-index
 mul-index c =
-    let g = c .before .before .before .before in
+    let g = c .before .before .before .before .before in
     let a = g .args in
-    omega (arith, c .node-word .ensures .1, mod-lt (a .k) {m = a .d - 1} (omega (arith, g .pre .order-low)), g .pre .order-high)
+    omega (arith, node-inside (needed-next (a .d) (a .k) _ _ (g .pre) (c .before .before .leaf-node .ensures .0)) (c .node-word .ensures .0) (le-refl _), mod-lt (a .k) {m = a .d - 1} (omega (arith, g .pre .order-low)), g .pre .order-high)
 
 slice-write-index : tie.Need-slice-write-index
 slice-write-index c =
-    let g = c .before .before .before .before in
+    let g = c .before .before .before .before .before in
     let a = g .args in
     let h = needed-next (a .d) (a .k) _ _ (g .pre) (c .before .before .leaf-node .ensures .0) in
-    omega (arith, c .node-word .ensures .0, mod-lt (a .k) {m = a .d - 1} (omega (arith, g .pre .order-low)), leaf-fits _ _ _ _ h)
+    omega (arith, mod-lt (a .k) {m = a .d - 1} (omega (arith, g .pre .order-low)), node-inside h (c .node-word .ensures .0) (le-refl _))
 
 same-length-2 : tie.Need-same-length-2
 same-length-2 c = search needs
@@ -90,7 +91,7 @@ same-length-2 c = search needs
 returns-2 : tie.Need-returns-2
 unfolding appendOf
 returns-2 c =
-    let g = c .before .before .before .before in
+    let g = c .before .before .before .before .before in
     let a = g .args in
     rw (ne-eqb (a .k % (a .d - 1)) 0 (λ z. absurd (omega arith)), c .node-word .ensures .0, c .before .before .leaf-node .ensures .0)
 

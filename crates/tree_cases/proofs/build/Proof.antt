@@ -5,6 +5,7 @@ use mathlib.Core.Path.{_≡_}
 use native.Mathlib.Nat.{le-trans}
 use lib.ListN.{length}
 use Rattle.tree.proofs.Fillings.{words-mono}
+use Rattle.tree.proofs.PlaceLaws.{room-stretch}
 use borrow.Author.Needs.{needs}
 use native.Mathlib.Omega.{arith}
 use Rattle.tree_cases.proofs.build.Statement.{statement}
@@ -19,15 +20,18 @@ abbrev μ-loop : tie.MeasureT-loop
 loop-holds : tie.Need-loop-holds Inv-loop μ-loop
 loop-holds c = search needs
 
+slice-aggregate-append : tie.Need-slice-aggregate-append Inv-loop μ-loop
+slice-aggregate-append c = search needs
+
 key-requires : tie.Need-key-requires Inv-loop μ-loop
 key-requires c κs = search needs
 
 append-requires : tie.Need-append-requires Inv-loop μ-loop
 append-requires c κs =
-    let g = c .before .before .before .before .before in
+    let lp = c .before .before .before .before in
+    let g = lp .before .before in
     let a = g .args in
-    let lp = c .before .before .before .loop in
-    record { order-low = g .pre .order-low; order-high = g .pre .order-high; few = omega (arith, g .pre .few); long = rw (lp .inv .1) (le-trans (words-mono (a .d) (lp .i + 1) (a .k) (g .pre .order-low) (omega arith)) (g .pre .long)) }
+    room-stretch (record { order-low = g .pre .order-low; order-high = g .pre .order-high; few = omega (arith, g .pre .few); long = rw (lp .loop .inv .1) (le-trans (words-mono (a .d) (lp .loop .i + 1) (a .k) (g .pre .order-low) (omega arith)) (g .pre .long)) }) _
 
 add-i : tie.Need-add-i Inv-loop μ-loop
 add-i c = search needs
@@ -51,6 +55,7 @@ build-spec =
     Inv-loop
     μ-loop
     loop-holds
+    slice-aggregate-append
     key-requires
     append-requires
     add-i
