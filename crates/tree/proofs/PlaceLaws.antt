@@ -1,16 +1,14 @@
 -- The two ways in which nodes are placed: one stretch, and extents. Assumes nothing.
-use Prim.Native.Nat.{ℕ, zero, suc, _+_, _-_, _*_, _/_, _%_, _≤_, _<_}
-use mathlib.Core.Path.{_≡_, refl, sym, ap, ap₂, _∙_}
+use Prim.Native.Nat.{ℕ, suc, _+_, _-_, _*_, _/_, _%_, _≤_, _<_}
+use mathlib.Core.Path.{_≡_, refl, ap, _∙_}
 use mathlib.Core.Logic.{_⊎_, inl, inr, ⊎-elim}
 use mathlib.Core.List.{List}
 use native.Mathlib.Omega.{arith}
-use native.Mathlib.Nat.{le-refl, add-sub-cancel-left, le-trans, mul-le-mul-right, mul-le-mul, mod-lt, mod-le, le-div-iff-mul-le, div-add-mod'}
+use native.Mathlib.Nat.{add-sub-cancel-left, le-trans, mul-le-mul-right, mod-lt, le-div-iff-mul-le, div-add-mod'}
 use lib.ListN.{length, getD, take, drop, length-drop, length-replicate}
 use lib.Seq.{length-take-le, drop-drop}
-use native.Mathlib.Numerals.{add-one}
 use borrow.Rule.Slice.PartMut.{putMid}
 use Rattle.codec.specs.Parts.{put, zeros}
-use Rattle.codec.proofs.PartLaws.{length-put}
 use lib.Dec.{eqb}
 use borrow.Author.Tests.{eq-eqb, ne-eqb, eqb-true, eqb-false}
 use mathlib.Core.Bool.{Bool, true, false}

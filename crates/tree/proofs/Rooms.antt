@@ -1,17 +1,17 @@
 -- What the code that writes needs to know of addresses: that they lie in the index, and which nodes they are.
 -- Assumes nothing.
 use Prim.Native.Nat.{ℕ, zero, suc, _+_, _-_, _*_, _/_, _%_, _≤_, _<_, zero-le, suc-le-suc}
-use mathlib.Core.Path.{_≡_, refl, sym, ap, ap₂, _∙_}
+use mathlib.Core.Path.{_≡_, refl, sym, ap, _∙_}
 use mathlib.Core.Logic.{inl, inr, ⊎-elim}
 use mathlib.Core.List.{List, [], _∷_, _++_, append-nil}
 use mathlib.Core.Bool.{true, false}
 use native.Mathlib.Omega.{arith}
-use native.Mathlib.Nat.{mul-le-mul-right, mul-le-mul, le-trans, div-le-self, sub-zero}
+use native.Mathlib.Nat.{mul-le-mul-right, mul-le-mul, le-trans, div-le-self}
 use borrow.Author.Tests.{eq-eqb, ne-eqb}
 use lib.ListN.{length, getD, set, take, drop, length-drop, length-take, drop-of-length-le}
-use lib.Seq.{take-all, drop-drop, length-take-le}
+use lib.Seq.{take-all, drop-drop}
 use borrow.Rule.Slice.PartMut.{putMid}
-use Rattle.codec.specs.Parts.{put, zeros}
+use Rattle.codec.specs.Parts.{put}
 use Rattle.model.specs.Shape.{valuation, cofactor, opens, host, padded}
 use Rattle.model.specs.Numbering.{nodes, leafNode, innerNode, nodeWord}
 use Rattle.tree.specs.Levels.{fullNodes, Room}
@@ -68,14 +68,6 @@ module _ (d m : ℕ) (two : 2 ≤ d) (p : 0 < m) where
       by : (x : ℕ) → host d m ≡ x → 0 < x
       by zero e = absurd (let z : _≡_ {A = ℕ} 0 1 = cc (opens-none d two, hosted d two m p .opened-by) in omega arith)
       by (suc x) e = suc-le-suc zero-le
-
--- the nodes of the leaves up to m, placed apart in an index of n words
-module _ (at : ℕ → ℕ) (d n m : ℕ) (two : 2 ≤ d) (h : Placed at (d - 1) (nodes d (m + 1)) n) where
-  pub leaf-room : at (leafNode d m) + (d - 1) ≤ n
-  leaf-room = h .room (leafNode d m) (leaf-in d two m (m + 1) (omega arith))
-
-  pub inner-room : at (innerNode d m) + (d - 1) ≤ n
-  inner-room = h .room (innerNode d m) (omega (arith, leaf-in d two m (m + 1) (omega arith)))
 
 -- leaf m is needed: the nodes by its number
 module _ (d : ℕ) (P : ℕ → Type 0) (m leaf : ℕ) (h : Needed d P m leaf) where

@@ -1,14 +1,14 @@
 -- The laws of `WrittenAt` for an index in one stretch, as `withTree` and `withoutNodes` have it. Assumes nothing.
 use Prim.Native.Nat.{ℕ, zero, suc, _+_, _-_, _*_, _≤_, _<_}
 use mathlib.Core.Path.{_≡_, refl, sym, ap, _∙_}
-use mathlib.Core.List.{List, [], _∷_, _++_, append-assoc}
+use mathlib.Core.List.{List, [], _++_, append-assoc}
 use native.Mathlib.Omega.{arith}
-use native.Mathlib.Nat.{le-refl, zero-add, zero-mul, mul-le-mul-right, not-suc-le-zero, le-of-suc-le-suc}
-use lib.ListN.{length, getD, take, drop, replicate, length-replicate, take-append-drop, replicate-append-replicate}
+use native.Mathlib.Nat.{le-refl, zero-add, zero-mul, mul-le-mul-right}
+use lib.ListN.{length, take, drop, replicate, length-replicate, take-append-drop, replicate-append-replicate}
 use lib.Seq.{take-add, take-at, drop-at}
 use Rattle.codec.specs.Parts.{zeros, part}
 use Rattle.model.specs.Numbering.{nodeWord}
-use Rattle.model.specs.Tree.{treeOf, indexWords, nodesOf, withNodes, withTree, withoutNodes, Packed}
+use Rattle.model.specs.Tree.{indexWords, nodesOf, withNodes, withTree, withoutNodes, Packed}
 use Rattle.tree.specs.Places.{Placed, withTreeAt}
 use Rattle.tree.proofs.Rooms.{placed}
 use Rattle.tree.proofs.WrittenAt as at

@@ -1,6 +1,6 @@
 -- One key more in the index of k keys (01, "Packed tree"): the words that are written, node k standing from
 -- word `at k` on. `appendOf` is what contracts cite. Assumes nothing.
-use Prim.Native.Nat.{ℕ, suc, _+_, _-_, _*_, _/_, _%_, _≤_, _<_}
+use Prim.Native.Nat.{ℕ, suc, _+_, _-_, _/_, _%_, _≤_, _<_}
 use mathlib.Core.Path.{_≡_}
 use mathlib.Core.List.{List, [], _∷_}
 use mathlib.Core.Bool.{cond}

@@ -1,6 +1,6 @@
 -- Counts of nodes by levels: the closed form of the packed numbering (01, "Packed tree"). Leaf m is node
 -- m + inners d m; the laws of `Numbers` tie it to the numbering of the model. Assumes nothing.
-use Prim.Native.Nat.{ℕ, zero, suc, _+_, _-_, _*_, _/_, _^_, _≤_, _<_}
+use Prim.Native.Nat.{ℕ, zero, suc, _+_, _-_, _/_, _^_, _≤_, _<_}
 use Rattle.model.specs.Tree.{nodesOf, indexWords}
 
 -- the inner nodes that the leaves up to m opened: on each level one for every d separators or part of d

@@ -1,7 +1,7 @@
 -- Where the nodes of an index stand: in one stretch, or in extents of equal size that start anywhere (02, wish 11). All that
 -- reads or writes a node speaks of its first word as `placeOf … k`, and all above the tree of the nodes as one stretch,
 -- `stretchOf`. Assumes nothing.
-use Prim.Native.Nat.{ℕ, zero, suc, _+_, _-_, _*_, _/_, _%_, _≤_, _<_}
+use Prim.Native.Nat.{ℕ, zero, suc, _+_, _-_, _/_, _%_, _≤_, _<_}
 use mathlib.Core.Path.{_≡_}
 use mathlib.Core.Logic.{_⊎_}
 use mathlib.Core.List.{List, [], _++_}

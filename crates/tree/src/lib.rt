@@ -5,7 +5,6 @@ ghost use mathlib.Core.Path.{_≡_};
 ghost use mathlib.Core.List.{_∷_, [], _++_};
 ghost use Prim.Native.Nat.{_+_, _-_, _*_, _%_, _≤_, _<_, min};
 ghost use lib.ListN.{length, drop};
-ghost use Rattle.codec.specs.Parts.{zeros};
 ghost use Rattle.model.specs.Shape.{cofactor, valuation, padded};
 ghost use Rattle.model.specs.Numbering.{leafNode, nodeWord};
 ghost use Rattle.model.specs.Tree.{nodesOf, indexWords};
@@ -49,7 +48,7 @@ fn inners_up_to(d: u32, m: u32) -> u32
     sum
 }
 
-pub fn leaf_node(d: u32, m: u32) -> NodeNumber
+fn leaf_node(d: u32, m: u32) -> NodeNumber
     requires { ⌜ 2 ≤ d ⌝ }
     requires { ⌜ d ≤ 64 ⌝ }
     requires { ⌜ m ≤ 65536 ⌝ }
@@ -210,7 +209,7 @@ pub fn append(index: &mut [u64], extent: u32, starts: &[u64], d: usize, k: usize
 // ---- the words of an index
 
 // The nodes that k keys take.
-pub fn nodes_of(d: usize, k: usize) -> u32
+fn nodes_of(d: usize, k: usize) -> u32
     requires { ⌜ 2 ≤ d ⌝ }
     requires { ⌜ d ≤ 64 ⌝ }
     requires { ⌜ k ≤ 65536 ⌝ }

@@ -1,9 +1,8 @@
 -- `tree::clear_nodes` meets its contract, node by node. Invariant: the nodes before i are zeros. Measure: the nodes that
 -- are left. Assumes nothing.
-use Prim.Native.Nat.{ℕ, _+_, _-_, _≤_, zero-le}
-use mathlib.Core.Path.{_≡_, refl, sym, ap, _∙_}
+use Prim.Native.Nat.{ℕ, _-_, _≤_, zero-le}
+use mathlib.Core.Path.{_≡_, refl, ap, _∙_}
 use lib.ListN.{length}
-use Rattle.codec.specs.Parts.{put, zeros}
 use Rattle.model.specs.Tree.{withNodes}
 use Rattle.tree.specs.Places.{placeOf, withoutNodesAt}
 use Rattle.tree.proofs.PlaceLaws.{reached-wide, clear-part}

@@ -1,8 +1,6 @@
 -- `tree::index_words` meets its contract. Assumes nothing.
-use Prim.Native.Nat.{ℕ}
 use mathlib.Core.Path.{ap, _∙_}
 use borrow.Author.Needs.{needs}
-use native.Mathlib.Omega.{arith}
 use Rattle.model.specs.Numbering.{nodeWord}
 use Rattle.tree.proofs.index_words.Statement.{statement}
 use Rattle.tree.proofs.index_words.Tie as tie
