@@ -42,6 +42,10 @@
  * Saving       Save the first 24 + 24 x records bytes of the log, which yk_store_log_bytes counts. Nothing
  *              else need be: yk_open makes index, table and numbers from them. Count files are not saved;
  *              keep them again.
+ * Reading      Lend yk_open as many bytes of the log as were read, not all that there is space for: behind a
+ *              file that was cut, or is empty, the memory may hold another log, and the opening would take
+ *              that one up. A short log is refused by 1 or 5. Once it is accepted, lend all of the log: the
+ *              opening of all of it would have done the same. yk_store_open_bytes does both.
  * Count files  No call needs one. Entries and areas may have length 0: then keep is refused by 15, and all
  *              else works.
  * Marks        A count file is kept with a mark: 0 permanent, 5 goes on Friday, 7 goes on Sunday. yk_drop_marked
@@ -347,10 +351,10 @@ static inline const char *yk_question_text(unsigned question) {
 
 /* ---- One handle: the numbers and the lent memory together
  *
- * Zero it, set the regions, and start it by yk_store_fresh or yk_store_open; its functions keep the numbers. A
- * region that is null counts as one of length 0, and the calls get a pointer that is not null for it. A copy of
- * it shares the memory and is no second store: go on with one of them. Its queries answer for any time, see
- * "Late times" above; a program that must know whether a time is late compares it with numbers.last. */
+ * Zero it, set the regions, and start it by yk_store_fresh, yk_store_open or yk_store_open_bytes; its functions
+ * keep the numbers. A region that is null counts as one of length 0, and the calls get a pointer that is not null
+ * for it. A copy of it shares the memory and is no second store: go on with one of them. Its queries answer for any
+ * time, see "Late times" above; a program that must know whether a time is late compares it with numbers.last. */
 typedef struct yk_store {
     uint8_t *log;
     size_t log_length;
@@ -452,9 +456,18 @@ static inline enum yk_question yk_store_fresh(yk_store *store, uint16_t order, u
         s.entries, s.entries_length, s.areas, s.areas_length));
 }
 
-/* yk_open: the lent log starts with the saved bytes. */
+/* yk_open of all of the lent log: it starts with the saved bytes, and none is missing. Where they were read from
+ * a file, yk_store_open_bytes. */
 static inline enum yk_question yk_store_open(yk_store *store) {
     yk_store s = yk_store_lent(store);
+    return yk_store_take(store, yk_open(YK_LENT(s)));
+}
+
+/* yk_open of the first bytes of the lent log, as many as were read into it; see "Reading" above. What lies behind
+ * them is not looked at, and is space for later appends as ever. More than are lent count as all of them. */
+static inline enum yk_question yk_store_open_bytes(yk_store *store, size_t bytes) {
+    yk_store s = yk_store_lent(store);
+    s.log_length = bytes < s.log_length ? bytes : s.log_length;
     return yk_store_take(store, yk_open(YK_LENT(s)));
 }
 

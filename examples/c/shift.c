@@ -91,12 +91,15 @@ static void save(const yk_store *store, const char *name) {
     printf("saved %u bytes\n", (unsigned)length);
 }
 
-static void load(uint8_t *log, size_t length, const char *name) {
+/* How many bytes were read: a file may have been cut, or be empty. */
+static size_t load(uint8_t *log, size_t length, const char *name) {
     FILE *file = fopen(name, "rb");
-    if (file == NULL || (fread(log, 1, length, file) == 0 && ferror(file)) || fclose(file) != 0) {
+    size_t bytes = file == NULL ? 0 : fread(log, 1, length, file);
+    if (file == NULL || ferror(file) || fclose(file) != 0) {
         perror(name);
         exit(1);
     }
+    return bytes;
 }
 
 int main(int many, char **arguments) {
@@ -125,16 +128,14 @@ int main(int many, char **arguments) {
     printf("inserting 4711 is refused by %d: %s\n", no, yk_question_text(no));
 
     save(&store, arguments[1]);
-    void *another = allocate(yk_store_bytes(need));
-    yk_store opened = yk_store_in(another, need);
-    load(opened.log, opened.log_length, arguments[1]);
-    must(yk_store_open(&opened));
+    /* The memory still holds the log: as many bytes as were read are opened, and not what lies behind them. */
+    yk_store opened = yk_store_in(block, need);
+    must(yk_store_open_bytes(&opened, load(opened.log, opened.log_length, arguments[1])));
     printf("opened %u records, audit says %s\n", (unsigned)opened.numbers.records,
         yk_store_audit(&opened) ? "yes" : "no");
     must(yk_store_update(&opened, at(FRIDAY, 9, 0), 4711, 8));
     print_table(&opened, "Tuesday evening, from the file", at(TUESDAY, 18, 0), out, need);
 
-    free(another);
     free(block);
     free(work);
     free(out);

@@ -125,10 +125,10 @@ fn main() -> Result<(), Box<dyn Error>> {
 
     fs::write(&file, store.log())?;
     println!("saved {} bytes", store.log().len());
+    // The memory still holds the log: as many bytes as were read are opened, and not what lies behind them.
     let saved = fs::read(&file)?;
-    let mut memory = Memory::new(need);
     memory.log.get_mut(..saved.len()).ok_or("the file is longer than the lent log")?.copy_from_slice(&saved);
-    let mut opened = Store::open(memory.lend())?;
+    let mut opened = Store::open_bytes(memory.lend(), saved.len())?;
     let audit = if opened.audit() { "yes" } else { "no" };
     println!("opened {} records, audit says {audit}", opened.numbers().records);
     opened.update(at(FRIDAY, 9, 0), 4711, 8)?;

@@ -71,7 +71,8 @@
 //! - **Marks**: a count file is kept with a [`Mark`]. [`Store::drop_marked`] deletes every file that goes on Friday, or
 //!   every one that goes on Sunday, when you call it: the store knows no weekday. [`Store::drop_file`] deletes one by
 //!   its time, whatever its mark.
-//! - **Saving**: [`Store::log`] is all that need be saved; [`Store::open`] makes the rest anew.
+//! - **Saving**: [`Store::log`] is all that need be saved; [`Store::open`] makes the rest anew. Where the log was read
+//!   from a file, [`Store::open_bytes`] takes up as many bytes as were read: behind them the memory may hold another log.
 //! - **Threads**: any number of stores on any number of threads.
 //! - **Damage**: whatever the lent memory holds, every call ends and stays within it. [`Store::audit`] says
 //!   whether it is such as accepted calls leave.

@@ -143,22 +143,37 @@ mod tests {
     extern crate std;
     use std::string::ToString;
 
+    /// Each refusal's number and words, in the order of the numbers.
     #[test]
-    fn each_number_has_its_refusal() {
-        assert_eq!(Refusal::of(0, 0), None);
-        for question in 1..=18 {
-            assert_eq!(Refusal::of(question, 3).unwrap().question(), question);
+    fn words() {
+        let all = [
+            (Refusal::Header, "1: the numbers, the log's header and the lent lengths do not fit each other"),
+            (Refusal::Order, "2: the order is not 2 to 64"),
+            (Refusal::PageSize, "3: the records per page are not 2 to 64"),
+            (Refusal::RowLimit, "4: the row limit is not 1 to 1,024"),
+            (
+                Refusal::Memory,
+                "5: the log, the index or the table is too short, or there are over 65,536 records",
+            ),
+            (Refusal::TimeNotAbove, "6: the time is not above the last"),
+            (Refusal::ArticlePresent, "7: the article is there already"),
+            (Refusal::ArticleAbsent, "8: the article is not there"),
+            (Refusal::RowsFull, "9: as many rows are live as the row limit allows"),
+            (Refusal::LogFull, "10: the log has no space for the request"),
+            (Refusal::IndexFull, "11: the index has no space for the nodes that the request needs"),
+            (Refusal::TimeAfterLast, "12: the time to keep is after the last request"),
+            (Refusal::OutputShort, "13: the output or the workspace is too short"),
+            (Refusal::NotToKeep, "14: the time is 0 or is kept already"),
+            (Refusal::CatalogueFull, "15: there is no space for another count file"),
+            (Refusal::NotKept, "16: no count file of that time is kept"),
+            (Refusal::WrongRecord { record: 4 }, "17: the log is not legal beyond its first 4 records"),
+            (Refusal::WrongMark, "18: the mark is not 0, 5 or 7; to drop by mark, not 5 or 7"),
+        ];
+        for (number, (refusal, words)) in (1..).zip(all) {
+            assert_eq!(Refusal::of(number, 4), Some(refusal));
+            assert_eq!(refusal.question(), number);
+            assert_eq!(refusal.to_string(), std::format!("refused by {words}"));
         }
-    }
-
-    #[test]
-    fn words_begin_with_the_number() {
-        assert_eq!(Refusal::TimeNotAbove.to_string(), "refused by 6: the time is not above the last");
-        let late = Refusal::TimeAfterLast;
-        assert_eq!(late.to_string(), "refused by 12: the time to keep is after the last request");
-        let wrong = Refusal::WrongRecord { record: 4 };
-        assert_eq!(wrong.to_string(), "refused by 17: the log is not legal beyond its first 4 records");
-        let mark = Refusal::WrongMark;
-        assert_eq!(mark.to_string(), "refused by 18: the mark is not 0, 5 or 7; to drop by mark, not 5 or 7");
+        assert_eq!((all.len(), Refusal::of(0, 0)), (18, None));
     }
 }

@@ -173,7 +173,8 @@ impl<'a> Store<'a> {
         self.take(answer)
     }
 
-    /// Takes up the written log that the lent one starts with: makes index and table, zeroes the catalogue.
+    /// Takes up the written log that the lent one starts with: makes index and table, zeroes the catalogue. Where its
+    /// bytes were read from a file, [`open_bytes`](Store::open_bytes).
     ///
     /// Refuses by 1 to 5 and 17.
     pub fn open(lent: Lent<'a>) -> Result<Store<'a>, Refusal> {
@@ -182,12 +183,48 @@ impl<'a> Store<'a> {
         Ok(store)
     }
 
+    /// As [`open`](Store::open), of the first bytes of the lent log, as many as were read into it. Behind a file that was
+    /// cut, or is empty, the memory may hold another log: it is not looked at, and is space for later appends as ever.
+    /// More bytes than are lent count as all of them.
+    ///
+    /// Refuses by 1 to 5 and 17: by 1 or 5 where bytes are missing.
+    ///
+    /// ```
+    /// # use yokefennel::{Lent, Refusal, Settings, Store};
+    /// # let (mut log, mut index, mut table) = ([0; 96], [0; 14], [0; 32]);
+    /// # macro_rules! lent { () => { Lent {
+    /// #     log: &mut log, index: &mut index, table: &mut table, entries: &mut [], areas: &mut []
+    /// # } } }
+    /// # let mut store = Store::fresh(Settings { order: 8, page: 2, limit: 4 }, lent!())?;
+    /// store.insert(10, 7, 50)?; // this log is in the memory still
+    /// let mut file = &b""[..];
+    /// let read = std::io::Read::read(&mut file, &mut log).unwrap();
+    /// assert_eq!(Store::open_bytes(lent!(), read).unwrap_err(), Refusal::Header);
+    /// # assert_eq!(Store::open_bytes(lent!(), 47).unwrap_err(), Refusal::Memory);
+    /// # Store::open_bytes(lent!(), 48)?.insert(20, 3, 12)?;
+    /// # Ok::<(), Refusal>(())
+    /// ```
+    pub fn open_bytes(lent: Lent<'a>, bytes: usize) -> Result<Store<'a>, Refusal> {
+        let mut store = Store::resume(Numbers::default(), lent);
+        store.reopen_bytes(bytes)?;
+        Ok(store)
+    }
+
     /// As [`open`](Store::open), in the memory that this store has. Refused, the store is without numbers, and
     /// [`start`](Store::start) may follow.
     ///
     /// Refuses by 1 to 5 and 17.
     pub fn reopen(&mut self) -> Result<(), Refusal> {
+        self.reopen_bytes(usize::MAX)
+    }
+
+    /// As [`open_bytes`](Store::open_bytes), in the memory that this store has. Refused, the store is without numbers,
+    /// and [`start`](Store::start) may follow.
+    ///
+    /// Refuses by 1 to 5 and 17.
+    pub fn reopen_bytes(&mut self, bytes: usize) -> Result<(), Refusal> {
         let Lent { log, index, table, entries, areas } = &mut self.lent;
+        let log = front(log, bytes);
         let answer = unsafe {
             raw::yk_open(
                 log.as_ptr(), log.len(), index.as_mut_ptr(), index.len(), table.as_mut_ptr(), table.len(),

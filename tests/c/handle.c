@@ -1,5 +1,4 @@
-/* The handle: each of its functions, regions that are not lent, and every question in words. It reads as C99,
- * C11 and C++17. */
+/* The handle: each of its functions, and regions that are not lent. It reads as C99, C11 and C++17. */
 #include <stdio.h>
 #include <stdlib.h>
 #include <string.h>
@@ -167,8 +166,13 @@ static void marks(yk_store *store) {
     require(yk_store_keep(store, 40, YK_SUNDAY) == YK_ACCEPTED, "keep 40 until Sunday");
     require(yk_store_keep(store, 20, YK_FRIDAY) == YK_ACCEPTED, "keep 20 until Friday");
     require(entry_is(entries[0], 20, 2, 5) && entry_is(entries[1], 40, 1, 7), "a mark goes with its file");
-    require(yk_store_keep(store, 30, 6) == YK_WRONG_MARK && store->numbers.files == 2, "no such mark");
-    require(goes(store, YK_PERMANENT, YK_WRONG_MARK, 0, 2) && goes(store, 6, YK_WRONG_MARK, 0, 2), "nor here");
+    require(goes(store, YK_PERMANENT, YK_WRONG_MARK, 0, 2), "permanent files do not go so");
+    /* the last ones are right in some of their bytes */
+    static const uint32_t wrong[] = {6, 8, 0x105, 0x107, 0x10000, 0x10005, 0x05000000, 0x07000000, 0x80000007};
+    for (size_t i = 0; i < sizeof wrong / sizeof wrong[0]; i++) {
+        require(yk_store_keep(store, 30, wrong[i]) == YK_WRONG_MARK && store->numbers.files == 2, "no such mark");
+        require(goes(store, wrong[i], YK_WRONG_MARK, 0, 2), "nor here");
+    }
     require(goes(store, YK_FRIDAY, YK_ACCEPTED, 1, 1), "Friday's deletion");
     require(entry_is(entries[0], 40, 1, 7) && entry_is(entries[1], 0, 0, 0), "what stays moves down");
     require(row_is(yk_row_at(areas, 0), 7, 44), "its rows too");
@@ -256,21 +260,6 @@ static void past_32_bits(void) {
         "differences past 32 bits");
 }
 
-static void words(void) {
-    for (unsigned question = 0; question <= 18; question++) {
-        const char *text = yk_question_text(question);
-        require(strcmp(text, "no such question") != 0, "each question has words");
-        for (unsigned other = 0; other < question; other++) {
-            require(strcmp(text, yk_question_text(other)) != 0, "and its own");
-        }
-    }
-    require(strcmp(yk_question_text(19), "no such question") == 0, "no question 19");
-    char version[32];
-    snprintf(version, sizeof version, "%d.%d.%d", YK_VERSION_MAJOR, YK_VERSION_MINOR, YK_VERSION_PATCH);
-    require(strcmp(version, YK_VERSION) == 0, "one version");
-    require(yk_version() == YK_VERSION_NUMBER, "and the archive's");
-}
-
 /* As much as the lengths say, in one block. */
 static void lengths(void) {
     static uint64_t block[1000];
@@ -300,7 +289,6 @@ int main(void) {
     no_requests();
     past_32_bits();
     lengths();
-    words();
     puts("handle: ok");
     return 0;
 }

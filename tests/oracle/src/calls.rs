@@ -14,7 +14,7 @@ pub use deletions::deletions;
 pub use late::Late;
 pub use marks::Marks;
 pub use next::call;
-pub use start::{last_records, start};
+pub use start::{large_log, large_memory, last_records, start};
 
 use crate::mark::MARKS;
 use crate::random::Random;
@@ -105,6 +105,8 @@ pub struct Plan {
     marks: &'static [u32],
     /// the most by which a time rises
     step: u64,
+    /// whether a fresh store may follow the first start
+    starts: bool,
     pub calls: u64,
 }
 
@@ -119,7 +121,24 @@ impl Plan {
             keeps: random.pick(&[60, 85, 97, 100]),
             marks: random.pick(&KEPT_MARKS),
             step: random.pick(&[1, 3, 1 << 40, 1 << 59]),
+            starts: true,
             calls: if random.percent(90) { random.from(1, 90) } else { random.from(90, 600) },
+        }
+    }
+
+    /// So many calls on a large store, articles and counts of any size.
+    pub fn large(damage: u64, calls: u64) -> Plan {
+        Plan {
+            articles: u32::MAX,
+            most: u32::MAX,
+            damage,
+            appends: 25,
+            files: 25,
+            keeps: 85,
+            marks: &MARKS,
+            step: 1 << 40,
+            starts: false,
+            calls,
         }
     }
 }

@@ -2,15 +2,17 @@
 //! other ones against. It is written for plain reading, not for speed: each definition follows a sentence of 01 or 02.
 
 pub mod calls;
+#[cfg(feature = "proved")]
+pub mod compare;
 pub mod generate;
 pub mod layout;
-#[cfg(feature = "proved")]
-pub mod lent;
 pub mod limits;
 pub mod listing;
 pub mod log;
 pub mod mark;
 pub mod net_change;
+#[cfg(feature = "proved")]
+pub mod odd_bytes;
 pub mod outset;
 #[cfg(feature = "proved")]
 pub mod plain;

@@ -2,9 +2,7 @@
 
 use crate::position::Position;
 
-/// One entry of the catalogue, laid out as C has it, so that a list of them can be lent to C. The choice of an outset does
-/// not look at the mark.
-#[repr(C)]
+/// One entry of the catalogue. The choice of an outset does not look at the mark.
 #[derive(Clone, Copy, Debug, Default, PartialEq, Eq)]
 pub struct Entry {
     pub time: u64,

@@ -1,250 +1,89 @@
-//! The proved store, called through its static library. `Store` is how a Rust program has it: memory is
-//! borrowed, an answer is a `Result`, and a refusal has 01's number. The oracle uses nothing of this.
+//! The proved store, through the product's own crate: what a maker's program is answered and handed is what is compared. Each
+//! call is made twice on the same memory, once by the calls that the header declares (`raw`) and once by the handle `Store`,
+//! and what the handle's readers hand out is held to the bytes, read here by 01's layout. The oracle uses nothing of this.
 
-mod answers;
-mod c;
+mod by_calls;
+mod by_handle;
 pub mod fewer_files;
+mod owned;
 
-use crate::outset::{Entry, Place};
-use crate::position::Position;
-use crate::store::{Numbers, Refusal, TableAnswer, View};
+pub use owned::Owned;
 
-/// The lent memory.
-#[derive(Debug)]
-pub struct Memory<'a> {
-    pub log: &'a mut [u8],
-    pub index: &'a mut [u64],
-    pub table: &'a mut [u8],
-    /// the catalogue
-    pub entries: &'a mut [Entry],
-    pub areas: &'a mut [u8],
+use crate::calls::Call;
+use crate::compare::{same, same_stores, within_bounds, Answer};
+use crate::odd_bytes::OddBytes;
+use crate::outset::Entry;
+use crate::store::{self, Memory, Refusal, Store};
+use yokefennel::{Lent, Numbers};
+
+/// What the proved store answers. Numbers and memory are then as it left them. Bytes are lent at places that depend on `odd`.
+pub fn answer(store: &mut Store, call: Call, odd: usize) -> Result<Answer, String> {
+    let mut by_handle = store.clone();
+    let answer = lend(store, odd, |mut numbers, mut lent| {
+        let answer = by_calls::answer(&mut numbers, &mut lent, call, odd);
+        (answer, numbers)
+    });
+    within_bounds(store.numbers.row_limit, &answer)?;
+    if let Some(got) = by_handle::answer(&mut by_handle, call, odd + 1, &answer)? {
+        same("answer of the handle", &answer, &got)?;
+        same_stores(store, &by_handle).map_err(|what| format!("by the handle, {what}"))?;
+    }
+    Ok(answer)
 }
 
-#[derive(Debug)]
-pub struct Store<'a> {
-    pub numbers: Numbers,
-    pub memory: Memory<'a>,
+/// Calls of the handle on this store's memory. Numbers and memory are then as they left them.
+pub fn on_handle<T>(store: &mut Store, odd: usize, calls: impl FnOnce(&mut yokefennel::Store) -> T) -> T {
+    lend(store, odd, |numbers, lent| {
+        let mut handle = yokefennel::Store::resume(numbers, lent);
+        let answer = calls(&mut handle);
+        (answer, handle.numbers())
+    })
 }
 
-// Each call below passes the pointer and the length of slices that are borrowed as long as it runs, those
-// that it may write as `&mut`; the library keeps none of them. That is all that its functions ask.
-#[rustfmt::skip]
-impl<'a> Store<'a> {
-    /// Lent memory without a store in it yet.
-    pub fn over(memory: Memory<'a>) -> Store<'a> {
-        Store { numbers: Numbers::default(), memory }
-    }
+/// Lends a copy of this store's memory, its bytes at odd places, and takes up what the calls leave.
+fn lend<T>(store: &mut Store, odd: usize, calls: impl FnOnce(Numbers, Lent) -> (T, Numbers)) -> T {
+    let Memory { log, index, table, catalogue, areas } = &mut store.memory;
+    let (mut odd_log, mut odd_table) = (OddBytes::new(log, odd), OddBytes::new(table, odd + 3));
+    let mut odd_areas = OddBytes::new(areas, odd + 5);
+    let mut entries: Vec<yokefennel::Entry> = catalogue.iter().map(entry_lent).collect();
+    let lent = Lent {
+        log: odd_log.bytes(),
+        index,
+        table: odd_table.bytes(),
+        entries: &mut entries,
+        areas: odd_areas.bytes(),
+    };
+    let (answer, numbers) = calls(numbers_lent(&store.numbers), lent);
+    store.numbers = numbers_back(numbers);
+    (*log, *table, *areas) = (odd_log.back(), odd_table.back(), odd_areas.back());
+    *catalogue = entries.iter().map(entry_back).collect();
+    answer
+}
 
-    pub fn fresh(&mut self, order: u16, page_size: u16, row_limit: u32) -> Result<(), Refusal> {
-        let Memory { log, table, entries, areas, .. } = &mut self.memory;
-        let answer = unsafe {
-            c::yk_fresh(
-                order, page_size, row_limit,
-                log.as_mut_ptr(), log.len(), table.as_mut_ptr(), table.len(),
-                entries.as_mut_ptr(), entries.len(), areas.as_ptr(), areas.len(),
-            )
-        };
-        self.take_up(answer)
-    }
+fn numbers_lent(numbers: &store::Numbers) -> Numbers {
+    let store::Numbers { order, page_size: page, row_limit: limit, records, last, live, files } = *numbers;
+    Numbers { order, page, limit, records, last, live, files }
+}
 
-    pub fn open(&mut self) -> Result<(), Refusal> {
-        let Memory { log, index, table, entries, areas } = &mut self.memory;
-        let answer = unsafe {
-            c::yk_open(
-                log.as_ptr(), log.len(), index.as_mut_ptr(), index.len(), table.as_mut_ptr(), table.len(),
-                entries.as_mut_ptr(), entries.len(), areas.as_ptr(), areas.len(),
-            )
-        };
-        self.take_up(answer)
-    }
+fn numbers_back(numbers: Numbers) -> store::Numbers {
+    let Numbers { order, page, limit, records, last, live, files } = numbers;
+    store::Numbers { order, page_size: page, row_limit: limit, records, last, live, files }
+}
 
-    pub fn insert(&mut self, time: u64, article: u32, count: u32) -> Result<(), Refusal> {
-        let Memory { log, index, table, entries, areas } = &mut self.memory;
-        let answer = unsafe {
-            c::yk_insert(
-                self.numbers,
-                log.as_mut_ptr(), log.len(), index.as_mut_ptr(), index.len(), table.as_mut_ptr(), table.len(),
-                entries.as_ptr(), entries.len(), areas.as_ptr(), areas.len(),
-                time, article, count,
-            )
-        };
-        self.take_up(answer)
-    }
+fn entry_lent(entry: &Entry) -> yokefennel::Entry {
+    let Entry { time, rows, mark } = *entry;
+    yokefennel::Entry { time, rows, mark }
+}
 
-    pub fn delete(&mut self, time: u64, article: u32) -> Result<(), Refusal> {
-        let Memory { log, index, table, entries, areas } = &mut self.memory;
-        let answer = unsafe {
-            c::yk_delete(
-                self.numbers,
-                log.as_mut_ptr(), log.len(), index.as_mut_ptr(), index.len(), table.as_mut_ptr(), table.len(),
-                entries.as_ptr(), entries.len(), areas.as_ptr(), areas.len(),
-                time, article,
-            )
-        };
-        self.take_up(answer)
-    }
+fn entry_back(entry: &yokefennel::Entry) -> Entry {
+    let yokefennel::Entry { time, rows, mark } = *entry;
+    Entry { time, rows, mark }
+}
 
-    pub fn update(&mut self, time: u64, article: u32, count: u32) -> Result<(), Refusal> {
-        let Memory { log, index, table, entries, areas } = &mut self.memory;
-        let answer = unsafe {
-            c::yk_update(
-                self.numbers,
-                log.as_mut_ptr(), log.len(), index.as_mut_ptr(), index.len(), table.as_mut_ptr(), table.len(),
-                entries.as_ptr(), entries.len(), areas.as_ptr(), areas.len(),
-                time, article, count,
-            )
-        };
-        self.take_up(answer)
-    }
-
-    pub fn position(&self, t: u64) -> Result<Position, Refusal> {
-        let Memory { log, index, table, entries, areas } = &self.memory;
-        let answer = unsafe {
-            c::yk_position(
-                self.numbers,
-                log.as_ptr(), log.len(), index.as_ptr(), index.len(), table.as_ptr(), table.len(),
-                entries.as_ptr(), entries.len(), areas.as_ptr(), areas.len(),
-                t,
-            )
-        };
-        answers::position(answer)
-    }
-
-    /// Writes the table of t into the first 8 × R bytes of the output.
-    pub fn table(&self, t: u64, output: &mut [u8]) -> Result<TableAnswer, Refusal> {
-        let Memory { log, index, table, entries, areas } = &self.memory;
-        let answer = unsafe {
-            c::yk_table(
-                self.numbers,
-                log.as_ptr(), log.len(), index.as_ptr(), index.len(), table.as_ptr(), table.len(),
-                entries.as_ptr(), entries.len(), areas.as_ptr(), areas.len(),
-                t, output.as_mut_ptr(), output.len(),
-            )
-        };
-        answers::table(answer)
-    }
-
-    /// Where the rows are that the table of t is worked out from.
-    pub fn view(&self, t: u64) -> Result<View, Refusal> {
-        let Memory { log, index, table, entries, areas } = &self.memory;
-        let answer = unsafe {
-            c::yk_view(
-                self.numbers,
-                log.as_ptr(), log.len(), index.as_ptr(), index.len(), table.as_ptr(), table.len(),
-                entries.as_ptr(), entries.len(), areas.as_ptr(), areas.len(),
-                t,
-            )
-        };
-        answers::view(answer)
-    }
-
-    /// The rows of a view, a part of the areas or of the table.
-    pub fn view_bytes(&self, view: &View) -> &[u8] {
-        let region: &[u8] = if let Place::File(_) = view.place { self.memory.areas } else { self.memory.table };
-        &region[view.start..view.start + view.length]
-    }
-
-    /// Writes the entries into the first 24 × R bytes of the output, and the tables of a and b into the first
-    /// 16 × R bytes of the workspace. Answers the number of entries.
-    pub fn net_change(&self, a: u64, b: u64, output: &mut [u8], workspace: &mut [u8]) -> Result<u32, Refusal> {
-        let Memory { log, index, table, entries, areas } = &self.memory;
-        let answer = unsafe {
-            c::yk_net_change(
-                self.numbers,
-                log.as_ptr(), log.len(), index.as_ptr(), index.len(), table.as_ptr(), table.len(),
-                entries.as_ptr(), entries.len(), areas.as_ptr(), areas.len(),
-                a, b,
-                output.as_mut_ptr(), output.len(), workspace.as_mut_ptr(), workspace.len(),
-            )
-        };
-        answers::net_change(answer)
-    }
-
-    /// The units on hand at t.
-    pub fn units(&self, t: u64) -> Result<u64, Refusal> {
-        let Memory { log, index, table, entries, areas } = &self.memory;
-        let answer = unsafe {
-            c::yk_units(
-                self.numbers,
-                log.as_ptr(), log.len(), index.as_ptr(), index.len(), table.as_ptr(), table.len(),
-                entries.as_ptr(), entries.len(), areas.as_ptr(), areas.len(),
-                t,
-            )
-        };
-        answers::units(answer)
-    }
-
-    /// The units at b less those at a.
-    pub fn units_between(&self, a: u64, b: u64) -> Result<i64, Refusal> {
-        let Memory { log, index, table, entries, areas } = &self.memory;
-        let answer = unsafe {
-            c::yk_units_between(
-                self.numbers,
-                log.as_ptr(), log.len(), index.as_ptr(), index.len(), table.as_ptr(), table.len(),
-                entries.as_ptr(), entries.len(), areas.as_ptr(), areas.len(),
-                a, b,
-            )
-        };
-        answers::units_between(answer)
-    }
-
-    pub fn keep(&mut self, t: u64, mark: u32) -> Result<(), Refusal> {
-        let Memory { log, index, table, entries, areas } = &mut self.memory;
-        let answer = unsafe {
-            c::yk_keep(
-                self.numbers,
-                log.as_ptr(), log.len(), index.as_ptr(), index.len(), table.as_ptr(), table.len(),
-                entries.as_mut_ptr(), entries.len(), areas.as_mut_ptr(), areas.len(),
-                t, mark,
-            )
-        };
-        self.take_up(answer)
-    }
-
-    /// Drop a count file, whatever its mark. (The name `drop` is the language's own.)
-    pub fn drop_file(&mut self, t: u64) -> Result<(), Refusal> {
-        let Memory { log, index, table, entries, areas } = &mut self.memory;
-        let answer = unsafe {
-            c::yk_drop(
-                self.numbers,
-                log.as_ptr(), log.len(), index.as_ptr(), index.len(), table.as_ptr(), table.len(),
-                entries.as_mut_ptr(), entries.len(), areas.as_mut_ptr(), areas.len(),
-                t,
-            )
-        };
-        self.take_up(answer)
-    }
-
-    /// Deletes every count file with this mark; how many went.
-    pub fn drop_marked(&mut self, mark: u32) -> Result<u32, Refusal> {
-        let Memory { log, index, table, entries, areas } = &mut self.memory;
-        let answer = unsafe {
-            c::yk_drop_marked(
-                self.numbers,
-                log.as_ptr(), log.len(), index.as_ptr(), index.len(), table.as_ptr(), table.len(),
-                entries.as_mut_ptr(), entries.len(), areas.as_mut_ptr(), areas.len(),
-                mark,
-            )
-        };
-        self.numbers = answer.numbers;
-        answers::drop_marked(answer)
-    }
-
-    pub fn audit(&self) -> bool {
-        let Memory { log, index, table, entries, areas } = &self.memory;
-        let answer = unsafe {
-            c::yk_audit(
-                self.numbers,
-                log.as_ptr(), log.len(), index.as_ptr(), index.len(), table.as_ptr(), table.len(),
-                entries.as_ptr(), entries.len(), areas.as_ptr(), areas.len(),
-            )
-        };
-        answers::yes(answer)
-    }
-
-    /// Goes on with the numbers of an answer.
-    fn take_up(&mut self, answer: c::YkChange) -> Result<(), Refusal> {
-        self.numbers = answer.numbers;
-        answers::change(answer)
-    }
+fn refusal_back(refusal: yokefennel::Refusal) -> Refusal {
+    let record = match refusal {
+        yokefennel::Refusal::WrongRecord { record } => Some(record),
+        _ => None,
+    };
+    Refusal { question: refusal.question(), record }
 }

@@ -1,6 +1,8 @@
-//! Requests that fill a log, for the benchmark and for long walks.
+//! Requests that fill a log, for the benchmark, for long walks and for large stores.
 
+use crate::layout::{Record, DELETION, INSERTION};
 use crate::random::Random;
+use std::collections::BTreeMap;
 
 #[derive(Clone, Copy, Debug)]
 pub enum Request {
@@ -47,4 +49,27 @@ pub fn requests(random: &mut Random, limit: u32, most: u32, pool: Option<&[u32]>
         }
     }
     requests
+}
+
+/// The records that these requests append, an update two.
+pub fn records_of(requests: &[Request]) -> Vec<Record> {
+    let (mut live, mut records) = (BTreeMap::new(), Vec::new());
+    for &request in requests {
+        let (time, article, count) = match request {
+            Request::Insert(time, article, count) | Request::Update(time, article, count) => {
+                (time, article, Some(count))
+            }
+            Request::Delete(time, article) => (time, article, None),
+        };
+        let before = match count {
+            Some(count) => live.insert(article, count),
+            None => live.remove(&article),
+        };
+        for (kind, count) in [(DELETION, before), (INSERTION, count)] {
+            if let Some(count) = count {
+                records.push(Record::new(kind, records.len() as u32, time, article, count));
+            }
+        }
+    }
+    records
 }

@@ -1,26 +1,27 @@
-//! Times the proved store beside a plain Rust one: 65,536 records, R = 1,024, N = 64, d = 64, 16 count files or
-//! none, buffers warm, the best of several runs. Both write the same bytes and answer the same, which is checked.
+//! Times the proved store, through its crate's handle, beside a plain Rust one, in two settings: a large store, and that of a
+//! handheld counter. With 16 count files and with none, buffers warm, the best of several runs. Both write the same bytes and
+//! answer the same, which is checked.
 
 use oracle::limits::{MOST_FILES, MOST_RECORDS};
-use oracle::log::log_length;
 use oracle::mark::{FRIDAY, PERMANENT};
 use oracle::plain::Plain;
-use oracle::position::Position;
-use oracle::proved::{Memory, Store};
+use oracle::proved::Owned;
 use oracle::random::Random;
 use oracle::requests::{colliding, requests, Request};
-use oracle::store::Lengths;
 use oracle::table::table_length;
-use oracle::tree::word_count;
 use std::hint::black_box;
 use std::time::Instant;
+use yokefennel::{Mark, Settings};
 
-const ORDER: u16 = 64;
-const PAGE_SIZE: u16 = 64;
-const ROW_LIMIT: u32 = 1_024;
 const RUNS: usize = 15;
 const POSITIONS: usize = 100_000;
 const TABLES: usize = 20;
+
+/// Settings, and how many records the log has.
+const BENCHES: [(&str, Settings, u32); 2] = [
+    ("large", Settings { order: 64, page: 64, limit: 1_024 }, MOST_RECORDS),
+    ("handheld", Settings { order: 8, page: 16, limit: 100 }, 1_000),
+];
 
 /// The times of the fastest runs of both, in nanoseconds.
 #[derive(Clone, Copy)]
@@ -47,7 +48,7 @@ impl Fastest {
     /// One line of the report: the times of both for one call, in this many nanoseconds, and their ratio.
     fn line(&self, what: &str, unit: &str, by: f64) {
         let (proved, plain) = (self.proved / by, self.plain / by);
-        println!("{what:<24} {proved:>9.1} {plain:>9.1} {unit}  {:.2}", proved / plain);
+        println!("{what:<24} {proved:>9.2} {plain:>9.2} {unit}  {:.2}", proved / plain);
     }
 }
 
@@ -59,204 +60,224 @@ fn best<A, B>(mut proved: impl FnMut() -> A, mut plain: impl FnMut() -> B) -> Fa
     fastest
 }
 
+/// Both stores, and what they are made with.
+struct Both {
+    settings: Settings,
+    records: u32,
+    proved: Owned,
+    plain: Plain,
+}
+
 fn main() {
-    let mut random = Random::new(2055);
-    let requests = requests(&mut random, ROW_LIMIT, MOST_RECORDS, None);
-    let area = table_length(ROW_LIMIT);
-    let lengths = Lengths {
-        log: log_length(MOST_RECORDS),
-        index: word_count(ORDER, PAGE_SIZE, MOST_RECORDS),
-        table: area,
-        catalogue: MOST_FILES,
-        areas: MOST_FILES * area,
-    };
-    let mut lent = oracle::store::Memory::filled(lengths, 0);
-    let mut proved = Store::over(Memory {
-        log: &mut lent.log,
-        index: &mut lent.index,
-        table: &mut lent.table,
-        entries: &mut lent.catalogue,
-        areas: &mut lent.areas,
-    });
-    let mut plain = Plain::fresh(ORDER, PAGE_SIZE, ROW_LIMIT, lengths);
-
-    println!("{:<24} {:>9} {:>9}", "", "proved", "plain");
-    let append = best(|| append_proved(&mut proved, &requests), || append_plain(&mut plain, &requests));
-    same(&proved, &plain);
-    append.line("append, a record", "ns", MOST_RECORDS as f64);
-
-    let opening = best(|| proved.open().unwrap(), || plain.open().unwrap());
-    same(&proved, &plain);
-    opening.line("opening, the whole log", "ms", 1e6);
-
-    let last = plain.numbers.last;
-    let asked: Vec<u64> = (0..POSITIONS).map(|_| random.from(0, last)).collect();
-    assert!(asked.iter().all(|&t| proved.position(t).unwrap() == plain.position(t).unwrap()));
-    let sum = |position: Position| (position.page + position.requests) as u64;
-    let position = best(
-        || asked.iter().map(|&t| sum(proved.position(t).unwrap())).sum::<u64>(),
-        || asked.iter().map(|&t| sum(plain.position(t).unwrap())).sum::<u64>(),
-    );
-    position.line("position", "ns", POSITIONS as f64);
-
-    queries(&proved, &plain, &asked[..TABLES], "no file");
-    keep_and_drop(&mut proved, &mut plain, &mut random);
-    drop_marked(&mut proved, &mut plain);
-    queries(&proved, &plain, &asked[..TABLES], "16 files");
-    colliding_tables(&mut proved, &mut plain, &mut random);
-}
-
-/// Tables of a log whose articles share one slot of the walk's hints.
-fn colliding_tables(proved: &mut Store, plain: &mut Plain, random: &mut Random) {
-    let requests = requests(random, ROW_LIMIT, MOST_RECORDS, Some(&colliding(2_000)));
-    append_proved(proved, &requests);
-    append_plain(plain, &requests);
-    let last = plain.numbers.last;
-    let asked: Vec<u64> = (0..TABLES).map(|_| random.from(0, last)).collect();
-    let [left, right] = &mut [0, 0].map(|fill| vec![fill; table_length(ROW_LIMIT)]);
-    let table = best(
-        || asked.iter().map(|&t| proved.table(t, left).unwrap().rows).sum::<u32>(),
-        || asked.iter().map(|&t| plain.table(t, right)).sum::<usize>(),
-    );
-    table.line("table, colliding", "µs", 1e3 * TABLES as f64);
-}
-
-/// Both stores have the same numbers and the same memory.
-fn same(proved: &Store, plain: &Plain) {
-    assert_eq!(proved.numbers, plain.numbers);
-    assert!(proved.memory.log == plain.log && proved.memory.index == plain.index);
-    assert!(proved.memory.table == plain.table && proved.memory.entries == plain.entries);
-    assert!(proved.memory.areas == plain.areas);
-}
-
-/// Table, units, net change and audit, with as many count files as are kept. Units stand beside the tables of the same
-/// times: they must not cost more.
-fn queries(proved: &Store, plain: &Plain, asked: &[u64], files: &str) {
-    let area = table_length(ROW_LIMIT);
-    let [left, right] = &mut [0, 0].map(|fill| vec![fill; 3 * area]);
-    let [work, other_work] = &mut [0, 0].map(|fill| vec![fill; 2 * area]);
-    for &t in asked {
-        let rows = proved.table(t, &mut left[..area]).unwrap().rows as usize;
-        assert_eq!(rows, plain.table(t, &mut right[..area]));
-        assert!(left[..area] == right[..area]);
+    for (name, settings, records) in BENCHES {
+        let Settings { order, page, limit } = settings;
+        println!("{name}: {records} records, {limit} rows, {page} records a page, order {order}");
+        println!("{:<24} {:>9} {:>9}", "", "proved", "plain");
+        Both {
+            settings,
+            records,
+            proved: Owned::fresh(settings, records, MOST_FILES as u32),
+            plain: Plain::fresh(order, page, limit, records, MOST_FILES),
+        }
+        .time();
     }
-    let table = best(
-        || asked.iter().map(|&t| proved.table(t, &mut left[..area]).unwrap().rows).sum::<u32>(),
-        || asked.iter().map(|&t| plain.table(t, &mut right[..area])).sum::<usize>(),
-    );
-    table.line(&format!("table, {files}"), "µs", 1e3 * asked.len() as f64);
+}
 
-    let pairs: Vec<[u64; 2]> = asked.windows(2).map(|pair| [pair[0], pair[1]]).collect();
-    units(proved, plain, asked, &pairs, files);
-    for &[a, b] in &pairs {
-        let entries = proved.net_change(a, b, left, work).unwrap() as usize;
-        assert_eq!(entries, plain.net_change(a, b, right, other_work));
-        assert!(left == right && work == other_work);
+impl Both {
+    fn time(&mut self) {
+        let random = &mut Random::new(2055);
+        let requests = requests(random, self.settings.limit, self.records, None);
+        self.append(&requests).line("append, a record", "ns", self.records as f64);
+        self.opening();
+        let last = self.plain.numbers.last;
+        let asked: Vec<u64> = (0..POSITIONS).map(|_| random.from(0, last)).collect();
+        self.position(&asked);
+        self.queries(&asked[..TABLES], "no file");
+        self.keep_and_drop(random);
+        self.drop_marked();
+        self.queries(&asked[..TABLES], "16 files");
+        self.colliding_tables(random);
     }
-    let net_change = best(
-        || pairs.iter().map(|&[a, b]| proved.net_change(a, b, left, work).unwrap()).sum::<u32>(),
-        || pairs.iter().map(|&[a, b]| plain.net_change(a, b, right, other_work)).sum::<usize>(),
-    );
-    net_change.line(&format!("net change, {files}"), "µs", 1e3 * pairs.len() as f64);
 
-    assert!(proved.audit() && plain.audit());
-    let audit = best(|| proved.audit(), || plain.audit());
-    audit.line(&format!("audit, {files}"), "µs", 1e3);
-}
+    fn append(&mut self, requests: &[Request]) -> Fastest {
+        let Both { settings, proved, plain, .. } = self;
+        let Settings { order, page, limit } = *settings;
+        let append = best(
+            || {
+                proved.calls(|store| store.start(*settings)).unwrap();
+                proved.append_all(requests)
+            },
+            || {
+                plain.start(order, page, limit);
+                plain.append_all(requests)
+            },
+        );
+        proved.assert_same(plain);
+        append
+    }
 
-/// Units at these times, and between these pairs of times.
-fn units(proved: &Store, plain: &Plain, asked: &[u64], pairs: &[[u64; 2]], files: &str) {
-    assert!(asked.iter().all(|&t| proved.units(t).unwrap() == plain.units(t)));
-    let units = best(
-        || asked.iter().map(|&t| proved.units(t).unwrap()).sum::<u64>(),
-        || asked.iter().map(|&t| plain.units(t)).sum::<u64>(),
-    );
-    units.line(&format!("units, {files}"), "µs", 1e3 * asked.len() as f64);
+    fn opening(&mut self) {
+        let Both { proved, plain, .. } = self;
+        let opening = best(|| proved.calls(|store| store.reopen()).unwrap(), || plain.open().unwrap());
+        proved.assert_same(plain);
+        opening.line("opening, the whole log", "µs", 1e3);
+    }
 
-    assert!(pairs.iter().all(|&[a, b]| proved.units_between(a, b).unwrap() == plain.units_between(a, b)));
-    let between = best(
-        || pairs.iter().map(|&[a, b]| proved.units_between(a, b).unwrap()).sum::<i64>(),
-        || pairs.iter().map(|&[a, b]| plain.units_between(a, b)).sum::<i64>(),
-    );
-    between.line(&format!("units between, {files}"), "µs", 1e3 * pairs.len() as f64);
-}
+    fn position(&mut self, asked: &[u64]) {
+        let Both { proved, plain, .. } = self;
+        proved.calls(|store| {
+            let of_proved = |t| {
+                let position = store.position(t).unwrap();
+                (position.page, position.requests)
+            };
+            let of_plain = |t| {
+                let position = plain.position(t).unwrap();
+                (position.page, position.requests)
+            };
+            assert!(asked.iter().all(|&t| of_proved(t) == of_plain(t)));
+            let sum = |(page, requests): (u32, u32)| (page + requests) as u64;
+            let position = best(
+                || asked.iter().map(|&t| sum(of_proved(t))).sum::<u64>(),
+                || asked.iter().map(|&t| sum(of_plain(t))).sum::<u64>(),
+            );
+            position.line("position", "ns", asked.len() as f64);
+        })
+    }
 
-/// Keeps 16 files in any order, and drops them in another; they are kept again at the end. By their times every second
-/// one is to go on Friday.
-fn keep_and_drop(proved: &mut Store, plain: &mut Plain, random: &mut Random) {
-    let last = plain.numbers.last;
-    let time = |k: usize| last * k as u64 / (MOST_FILES as u64 + 1);
-    let mut files: Vec<(u64, u32)> =
-        (1..=MOST_FILES).map(|k| (time(k), if k % 2 == 0 { PERMANENT } else { FRIDAY })).collect();
-    shuffle(random, &mut files);
-    let mut dropped = files.clone();
-    shuffle(random, &mut dropped);
-    let (mut keep, mut drop) = (Fastest::new(), Fastest::new());
-    for _ in 0..RUNS {
+    /// Table, units, net change and audit, with as many count files as are kept. Units stand beside the tables of the same
+    /// times: they must not cost more.
+    fn queries(&mut self, asked: &[u64], files: &str) {
+        self.tables(asked, &format!("table, {files}"));
+        let pairs: Vec<[u64; 2]> = asked.windows(2).map(|pair| [pair[0], pair[1]]).collect();
+        self.units(asked, &pairs, files);
+        self.net_changes(&pairs, files);
+        let Both { proved, plain, .. } = self;
+        proved.calls(|store| {
+            assert!(store.audit() && plain.audit());
+            best(|| store.audit(), || plain.audit()).line(&format!("audit, {files}"), "µs", 1e3);
+        })
+    }
+
+    fn tables(&mut self, asked: &[u64], name: &str) {
+        let Both { settings, proved, plain, .. } = self;
+        let [left, right] = &mut [0, 0].map(|fill| vec![fill; table_length(settings.limit)]);
+        proved.calls(|store| {
+            for &t in asked {
+                assert_eq!(store.table(t, left).unwrap().rows().len(), plain.table(t, right));
+                assert!(left == right);
+            }
+            let table = best(
+                || asked.iter().map(|&t| store.table(t, left).unwrap().rows().len()).sum::<usize>(),
+                || asked.iter().map(|&t| plain.table(t, right)).sum::<usize>(),
+            );
+            table.line(name, "µs", 1e3 * asked.len() as f64);
+        })
+    }
+
+    /// Units at these times, and between these pairs of times.
+    fn units(&mut self, asked: &[u64], pairs: &[[u64; 2]], files: &str) {
+        let Both { proved, plain, .. } = self;
+        proved.calls(|store| {
+            assert!(asked.iter().all(|&t| store.units(t).unwrap() == plain.units(t)));
+            let units = best(
+                || asked.iter().map(|&t| store.units(t).unwrap()).sum::<u64>(),
+                || asked.iter().map(|&t| plain.units(t)).sum::<u64>(),
+            );
+            units.line(&format!("units, {files}"), "µs", 1e3 * asked.len() as f64);
+
+            let of_proved = |[a, b]: [u64; 2]| store.units_between(a, b).unwrap();
+            let of_plain = |[a, b]: [u64; 2]| plain.units_between(a, b);
+            assert!(pairs.iter().all(|&pair| of_proved(pair) == of_plain(pair)));
+            let between = best(
+                || pairs.iter().map(|&pair| of_proved(pair)).sum::<i64>(),
+                || pairs.iter().map(|&pair| of_plain(pair)).sum::<i64>(),
+            );
+            between.line(&format!("units between, {files}"), "µs", 1e3 * pairs.len() as f64);
+        })
+    }
+
+    fn net_changes(&mut self, pairs: &[[u64; 2]], files: &str) {
+        let Both { settings, proved, plain, .. } = self;
+        let area = table_length(settings.limit);
+        let [left, right] = &mut [0, 0].map(|fill| vec![fill; 3 * area]);
+        let [work, other_work] = &mut [0, 0].map(|fill| vec![fill; 2 * area]);
+        proved.calls(|store| {
+            for &[a, b] in pairs {
+                let entries = store.net_change(a, b, left, work).unwrap().steps().len();
+                assert_eq!(entries, plain.net_change(a, b, right, other_work));
+                assert!(left == right && work == other_work);
+            }
+            let net_change = best(
+                || {
+                    let entries =
+                        |&[a, b]: &[u64; 2]| store.net_change(a, b, left, work).unwrap().steps().len();
+                    pairs.iter().map(entries).sum::<usize>()
+                },
+                || pairs.iter().map(|&[a, b]| plain.net_change(a, b, right, other_work)).sum::<usize>(),
+            );
+            net_change.line(&format!("net change, {files}"), "µs", 1e3 * pairs.len() as f64);
+        })
+    }
+
+    /// Keeps 16 files in any order, and drops them in another; they are kept again at the end. By their times every second
+    /// one is to go on Friday.
+    fn keep_and_drop(&mut self, random: &mut Random) {
+        let last = self.plain.numbers.last;
+        let time = |k: usize| last * k as u64 / (MOST_FILES as u64 + 1);
+        let mut files: Vec<(u64, u32)> =
+            (1..=MOST_FILES).map(|k| (time(k), if k % 2 == 0 { PERMANENT } else { FRIDAY })).collect();
+        random.shuffle(&mut files);
+        let mut dropped = files.clone();
+        random.shuffle(&mut dropped);
+        let (mut keep, mut drop) = (Fastest::new(), Fastest::new());
+        for _ in 0..RUNS {
+            self.keep_all(&files, &mut keep);
+            let Both { proved, plain, .. } = self;
+            drop.run(
+                || proved.calls(|store| dropped.iter().for_each(|&(t, _)| store.drop_file(t).unwrap())),
+                || dropped.iter().for_each(|&(t, _)| plain.drop_file(t).unwrap()),
+            );
+            proved.assert_same(plain);
+        }
+        keep.line("keep, of 16 files", "µs", 1e3 * MOST_FILES as f64);
+        drop.line("drop, of 16 files", "µs", 1e3 * MOST_FILES as f64);
+        self.keep_all(&files, &mut keep);
+    }
+
+    /// Deletes the files that are to go on Friday, every second one; they are kept again each time.
+    fn drop_marked(&mut self) {
+        let kept = self.plain.entries.iter().map(|entry| (entry.time, entry.mark));
+        let marked: Vec<(u64, u32)> = kept.filter(|(_, mark)| *mark == FRIDAY).collect();
+        let gone = marked.len() as u32;
+        let mut deletion = Fastest::new();
+        for _ in 0..RUNS {
+            let Both { proved, plain, .. } = self;
+            deletion.run(
+                || proved.calls(|store| assert_eq!(store.drop_marked(Mark::Friday), Ok(gone))),
+                || assert_eq!(plain.drop_marked(FRIDAY), Ok(gone)),
+            );
+            proved.assert_same(plain);
+            self.keep_all(&marked, &mut Fastest::new());
+        }
+        deletion.line(&format!("drop marked, {gone} of {MOST_FILES}"), "µs", 1e3);
+    }
+
+    fn keep_all(&mut self, files: &[(u64, u32)], keep: &mut Fastest) {
+        let Both { proved, plain, .. } = self;
+        let marked = |mark| Mark::try_from(mark).unwrap();
         keep.run(
-            || files.iter().for_each(|&(t, mark)| proved.keep(t, mark).unwrap()),
+            || proved.calls(|store| files.iter().for_each(|&(t, mark)| store.keep(t, marked(mark)).unwrap())),
             || files.iter().for_each(|&(t, mark)| plain.keep(t, mark).unwrap()),
         );
-        same(proved, plain);
-        drop.run(
-            || dropped.iter().for_each(|&(t, _)| proved.drop_file(t).unwrap()),
-            || dropped.iter().for_each(|&(t, _)| plain.drop_file(t).unwrap()),
-        );
-        same(proved, plain);
+        proved.assert_same(plain);
     }
-    keep.line("keep, of 16 files", "µs", 1e3 * MOST_FILES as f64);
-    drop.line("drop, of 16 files", "µs", 1e3 * MOST_FILES as f64);
-    keep_all(proved, plain, &files);
-}
 
-/// Deletes the files that are to go on Friday, every second one; they are kept again each time.
-fn drop_marked(proved: &mut Store, plain: &mut Plain) {
-    let mut marked: Vec<(u64, u32)> = plain.entries.iter().map(|entry| (entry.time, entry.mark)).collect();
-    marked.retain(|(_, mark)| *mark == FRIDAY);
-    let mut deletion = Fastest::new();
-    for _ in 0..RUNS {
-        deletion.run(
-            || assert_eq!(proved.drop_marked(FRIDAY), Ok(marked.len() as u32)),
-            || assert_eq!(plain.drop_marked(FRIDAY), Ok(marked.len() as u32)),
-        );
-        same(proved, plain);
-        keep_all(proved, plain, &marked);
-    }
-    same(proved, plain);
-    deletion.line(&format!("drop marked, {} of {MOST_FILES}", marked.len()), "µs", 1e3);
-}
-
-fn keep_all(proved: &mut Store, plain: &mut Plain, files: &[(u64, u32)]) {
-    for &(t, mark) in files {
-        proved.keep(t, mark).unwrap();
-        plain.keep(t, mark).unwrap();
-    }
-}
-
-fn shuffle<T>(random: &mut Random, list: &mut [T]) {
-    for k in (1..list.len()).rev() {
-        list.swap(k, random.place(k + 1));
-    }
-}
-
-fn append_proved(store: &mut Store, requests: &[Request]) {
-    store.fresh(ORDER, PAGE_SIZE, ROW_LIMIT).unwrap();
-    for &request in requests {
-        match request {
-            Request::Insert(time, article, count) => store.insert(time, article, count).unwrap(),
-            Request::Delete(time, article) => store.delete(time, article).unwrap(),
-            Request::Update(time, article, count) => store.update(time, article, count).unwrap(),
-        }
-    }
-}
-
-fn append_plain(store: &mut Plain, requests: &[Request]) {
-    store.start(ORDER, PAGE_SIZE, ROW_LIMIT);
-    for &request in requests {
-        match request {
-            Request::Insert(time, article, count) => store.insert(time, article, count).unwrap(),
-            Request::Delete(time, article) => store.delete(time, article).unwrap(),
-            Request::Update(time, article, count) => store.update(time, article, count).unwrap(),
-        }
+    /// Tables of a log whose articles share one slot of the walk's hints.
+    fn colliding_tables(&mut self, random: &mut Random) {
+        let requests = requests(random, self.settings.limit, self.records, Some(&colliding(2_000)));
+        self.append(&requests);
+        let last = self.plain.numbers.last;
+        let asked: Vec<u64> = (0..TABLES).map(|_| random.from(0, last)).collect();
+        self.tables(&asked, "table, colliding");
     }
 }

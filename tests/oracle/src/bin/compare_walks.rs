@@ -1,15 +1,13 @@
 //! Compares the tables of long walks, forwards and backwards, and their units with those of the plain store: on articles of
 //! any number, and on articles that share one slot of the walk's hints, which then lead nowhere.
 
-use oracle::log::log_length;
 use oracle::mark::MARKS;
 use oracle::plain::Plain;
-use oracle::proved::{Memory, Store};
+use oracle::proved::Owned;
 use oracle::random::Random;
-use oracle::requests::{colliding, requests, Request};
-use oracle::store::Lengths;
+use oracle::requests::{colliding, requests};
 use oracle::table::table_length;
-use oracle::tree::word_count;
+use yokefennel::{Mark, Settings, Store};
 
 const ORDER: u16 = 8;
 const PAGE_SIZE: u16 = 16;
@@ -32,62 +30,38 @@ fn main() {
 /// One log, its tables at random times with no count file and with some: how many were compared.
 fn compare(random: &mut Random, row_limit: u32, pool: Option<&[u32]>) -> usize {
     let requests = requests(random, row_limit, RECORDS, pool);
-    let area = table_length(row_limit);
-    let lengths = Lengths {
-        log: log_length(RECORDS),
-        index: word_count(ORDER, PAGE_SIZE, RECORDS),
-        table: area,
-        catalogue: FILES,
-        areas: FILES * area,
-    };
-    let mut lent = oracle::store::Memory::filled(lengths, 0);
-    let mut proved = Store::over(Memory {
-        log: &mut lent.log,
-        index: &mut lent.index,
-        table: &mut lent.table,
-        entries: &mut lent.catalogue,
-        areas: &mut lent.areas,
-    });
-    let mut plain = Plain::fresh(ORDER, PAGE_SIZE, row_limit, lengths);
-    proved.fresh(ORDER, PAGE_SIZE, row_limit).unwrap();
-    for &request in &requests {
-        match request {
-            Request::Insert(time, article, count) => {
-                proved.insert(time, article, count).unwrap();
-                plain.insert(time, article, count).unwrap();
-            }
-            Request::Delete(time, article) => {
-                proved.delete(time, article).unwrap();
-                plain.delete(time, article).unwrap();
-            }
-            Request::Update(time, article, count) => {
-                proved.update(time, article, count).unwrap();
-                plain.update(time, article, count).unwrap();
-            }
-        }
-    }
+    let settings = Settings { order: ORDER, page: PAGE_SIZE, limit: row_limit };
+    let mut proved = Owned::fresh(settings, RECORDS, FILES as u32);
+    let mut plain = Plain::fresh(ORDER, PAGE_SIZE, row_limit, RECORDS, FILES);
+    proved.append_all(&requests);
+    plain.append_all(&requests);
     let last = plain.numbers.last;
-    let [left, right] = &mut [1, 1].map(|fill| vec![fill; area]);
     for k in 0..=FILES as u64 {
-        for _ in 0..TIMES {
-            let t = asked(random, last);
-            let rows = proved.table(t, left).unwrap().rows as usize;
-            assert_eq!(rows, plain.table(t, right), "limit {row_limit}, time {t}");
-            assert!(left == right, "limit {row_limit}, time {t}");
-            assert_eq!(proved.units(t).unwrap(), plain.units(t), "limit {row_limit}, time {t}");
-            let other = asked(random, last);
-            let between = proved.units_between(t, other).unwrap();
-            assert_eq!(between, plain.units_between(t, other), "limit {row_limit}, from {t} to {other}");
-        }
+        proved.calls(|store| compare_tables(random, store, &plain));
         if k < FILES as u64 {
             let t = last * (k + 1) / (FILES as u64 + 1);
             let mark = MARKS[k as usize % MARKS.len()];
-            proved.keep(t, mark).unwrap();
+            proved.calls(|store| store.keep(t, Mark::try_from(mark).unwrap())).unwrap();
             plain.keep(t, mark).unwrap();
         }
     }
-    assert!(proved.memory.areas == plain.areas && proved.memory.entries == plain.entries);
+    proved.assert_same(&plain);
     TIMES * (FILES + 1)
+}
+
+fn compare_tables(random: &mut Random, proved: &Store, plain: &Plain) {
+    let (row_limit, last) = (plain.numbers.row_limit, plain.numbers.last);
+    let [left, right] = &mut [1, 1].map(|fill| vec![fill; table_length(row_limit)]);
+    for _ in 0..TIMES {
+        let t = asked(random, last);
+        let rows = proved.table(t, left).unwrap().rows().len();
+        assert_eq!(rows, plain.table(t, right), "limit {row_limit}, time {t}");
+        assert!(left == right, "limit {row_limit}, time {t}");
+        assert_eq!(proved.units(t).unwrap(), plain.units(t), "limit {row_limit}, time {t}");
+        let other = asked(random, last);
+        let between = proved.units_between(t, other).unwrap();
+        assert_eq!(between, plain.units_between(t, other), "limit {row_limit}, from {t} to {other}");
+    }
 }
 
 /// A time up to the last request, or sometimes one after it.

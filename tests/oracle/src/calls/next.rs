@@ -45,6 +45,7 @@ pub fn call(random: &mut Random, plan: &Plan, store: &Store) -> Call {
         70..=84 => Call::UnitsBetween(t, asked(random, store)),
         85..=93 => Call::Audit,
         94..=97 => Call::Open,
+        _ if !plan.starts => Call::Audit,
         _ => {
             let (order, page_size, row_limit) = settings(random);
             Call::Fresh(order, page_size, row_limit)

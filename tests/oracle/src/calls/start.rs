@@ -3,9 +3,10 @@
 use super::{near, Call};
 use crate::generate::case;
 use crate::layout::{Header, Record, DELETION, HEADER_BYTES, INSERTION};
-use crate::limits::{MOST_RECORDS, ORDERS, PAGE_SIZES, ROW_LIMITS};
+use crate::limits::{MOST_FILES, MOST_RECORDS, ORDERS, PAGE_SIZES, ROW_LIMITS};
 use crate::log::log_length;
 use crate::random::Random;
+use crate::requests::{records_of, requests};
 use crate::samples::log_of;
 use crate::store::{Lengths, Memory};
 use crate::table::table_length;
@@ -81,6 +82,30 @@ fn lengths_of_log(random: &mut Random, bytes: &[u8]) -> Lengths {
     let Header { order, page_size, row_limit, records, .. } = Header::read(bytes);
     let more = random.pick(&[0, 0, 1, 2, 20]);
     lengths(random, (order, page_size, row_limit), records.min(3_000) + more)
+}
+
+/// A log of so many records with as many rows as there may be, its numbers in all their bytes.
+pub fn large_log(random: &mut Random, order: u16, page_size: u16, records: u32) -> Vec<u8> {
+    // times up to 9 for each record, so that the last one is below 2^64
+    let spread = u64::MAX / (16 * records as u64);
+    let mut records = records_of(&requests(random, *ROW_LIMITS.end(), records, None));
+    records.iter_mut().for_each(|record| record.time *= spread);
+    log_of(order, page_size, *ROW_LIMITS.end(), &records)
+}
+
+/// Memory for a large store with so many records and all count files, the log at its start.
+pub fn large_memory(order: u16, page_size: u16, records: u32, log: &[u8]) -> Memory {
+    let area = table_length(*ROW_LIMITS.end());
+    let lengths = Lengths {
+        log: log_length(records),
+        index: word_count(order, page_size, records),
+        table: area,
+        catalogue: MOST_FILES,
+        areas: MOST_FILES * area,
+    };
+    let mut memory = Memory::filled(lengths, 0xA5);
+    memory.log[..log.len()].copy_from_slice(log);
+    memory
 }
 
 /// A log with space for so many records up to the most there are, and calls that take and pass the last one.

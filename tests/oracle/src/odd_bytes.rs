@@ -9,19 +9,19 @@ pub const STRANGE: u8 = 0xA5;
 const MARGIN: usize = 16;
 
 #[derive(Debug)]
-pub struct Lent {
+pub struct OddBytes {
     around: Vec<u8>,
     place: Range<usize>,
 }
 
-impl Lent {
+impl OddBytes {
     /// A copy of the bytes that begins `odd` % 8 bytes past a multiple of eight.
-    pub fn new(bytes: &[u8], odd: usize) -> Lent {
+    pub fn new(bytes: &[u8], odd: usize) -> OddBytes {
         let mut around = vec![STRANGE; bytes.len() + 2 * MARGIN + 16];
         let start = MARGIN + around[MARGIN..].as_ptr().align_offset(8) + odd % 8;
         let place = start..start + bytes.len();
         around[place.clone()].copy_from_slice(bytes);
-        Lent { around, place }
+        OddBytes { around, place }
     }
 
     pub fn bytes(&mut self) -> &mut [u8] {
