@@ -4,12 +4,14 @@
 mod input;
 mod output;
 
-ghost use Prim.Native.Nat.{_+_, _≤_, _<_};
+ghost use mathlib.Core.Path.{_≡_};
+ghost use mathlib.Core.Bool.{true};
+ghost use Prim.Native.Nat.{_+_, _≤_};
 ghost use lib.ListN.{length};
-use catalogue::Catalogue;
+ghost use Rattle.printout.specs.Listings.{begunAt, endedAs, Listed, LastOf};
+use catalogue::Candidates;
 use model::Numbers;
 use model::PositionAnswer;
-use model::RecordNumber;
 use model::Refusal;
 use model::TableAnswer;
 use model::UnitsAnswer;
@@ -17,21 +19,24 @@ use model::Verdict;
 use output::Room;
 use reader::Step;
 
-// The bytes in use behind a line, and the requests up to its time; none where there is no line.
-pub struct Listed {
+// How far the listing is.
+pub struct Listing {
+    // bytes of the buffer in use
     pub at: usize,
-    pub requests: u32,
+    // the time listed last, 0 before the first: times are at least 1
+    pub time: u64,
+    // whether all could be written so far
+    pub written: bool,
+    // whether a record may follow
+    pub more: bool,
 }
 
-// No count file is kept, and no entry is lent.
-fn no_files() -> Catalogue {
-    Catalogue {
-        entries: [catalogue::no_entry(); 16],
-        lent: 0,
-    }
+// The candidates where no count file is kept and no entry is lent.
+fn no_files(s: Numbers) -> Candidates {
+    catalogue::as_candidates(catalogue::none_around(s), 0)
 }
 
-// Gathers the line for the time t.
+// Gathers the line for the time t, and answers the bytes then in use.
 fn list_time(
     s: Numbers,
     log: &[u8],
@@ -41,9 +46,9 @@ fn list_time(
     out: &mut [u8],
     buffer: &mut [u8],
     at: usize,
-) -> Listed
+) -> usize
     requires { ⌜ at + 65 ≤ length (now buffer) ⌝ }
-    ensures { λ r. ⌜ r .at ≤ at + 65 ⌝ }
+    ensures { λ r. ⌜ r ≤ at + 65 ⌝ }
 {
     let starts = [0u64; 1];
     let words = index.len();
@@ -59,7 +64,7 @@ fn list_time(
         0,
         t,
     ) else {
-        return Listed { at, requests: 0 };
+        return at;
     };
     let none = &current[0..0];
     let TableAnswer::Table {
@@ -74,29 +79,15 @@ fn list_time(
         &starts,
         words,
         current,
-        no_files(),
+        no_files(s),
         none,
         t,
         out,
     )
     else {
-        return Listed { at, requests: 0 };
+        return at;
     };
-    Listed {
-        at: lines::put_line(buffer, at, t, position.page.0, side, rows),
-        requests: position.requests,
-    }
-}
-
-// The first record after those up to the time that was listed, record k's; one on where there was no line.
-fn record_after(k: u32, requests: u32) -> u32
-    requires { ⌜ k < 65536 ⌝ }
-    ensures { λ r. ⌜ k < r ⌝ }
-{
-    if k < requests {
-        return requests;
-    }
-    k + 1
+    lines::put_line(buffer, at, t, position.page.0, side, rows)
 }
 
 // Gathers the last line, writes what is still to be written, and answers the status.
@@ -126,7 +117,7 @@ fn list_units(
         &starts,
         words,
         current,
-        no_files(),
+        no_files(s),
         none,
         s.last,
     ) else {
@@ -134,6 +125,84 @@ fn list_units(
     };
     let end = lines::put_units(buffer, room, total);
     output::finish(buffer, end, output::LISTED)
+}
+
+// Before the first record.
+fn begun(at: usize) -> Listing
+    ensures { λ r. ⌜ r ≡ begunAt at ⌝ }
+{
+    Listing {
+        at,
+        time: 0,
+        written: true,
+        more: true,
+    }
+}
+
+// No record follows.
+fn ended(l: Listing, written: bool) -> Listing
+    ensures { λ r. ⌜ r ≡ endedAs l written ⌝ }
+{
+    Listing {
+        at: l.at,
+        time: l.time,
+        written,
+        more: false,
+    }
+}
+
+// What the reader has handed out is listed: a line for a record's time, unless it is the time listed last.
+fn list_step(
+    step: Step,
+    l: Listing,
+    s: Numbers,
+    log: &[u8],
+    index: &[u64],
+    current: &[u8],
+    out: &mut [u8],
+    buffer: &mut [u8],
+) -> Listing
+    requires { ⌜ (l .at ≤ length (now buffer)) × (65 ≤ length (now buffer)) ⌝ }
+    ensures { λ r. ⌜ (r .at ≤ length (now (buffer .entry))) × Listed step l r ⌝ }
+{
+    let Step::Next(record) = step else {
+        return ended(l, l.written);
+    };
+    if record.time == l.time {
+        return l;
+    }
+    let Room::At(room) = output::make_room(buffer, l.at) else {
+        return ended(l, false);
+    };
+    Listing {
+        at: list_time(s, log, index, current, record.time, out, buffer, room),
+        time: record.time,
+        written: l.written,
+        more: l.more,
+    }
+}
+
+// One reader goes along the log from the first record, and what it hands out is listed. Only this function holds a reader, and it is
+// proved by hand: all that it does is to call.
+fn list_records(
+    s: Numbers,
+    log: &[u8],
+    index: &[u64],
+    current: &[u8],
+    out: &mut [u8],
+    buffer: &mut [u8],
+    at: usize,
+) -> Listing
+    requires { ⌜ (at ≤ length (now buffer)) × (65 ≤ length (now buffer)) ⌝ }
+    ensures { λ r. ⌜ (r .at ≤ length (now (buffer .entry))) × (r .written ≡ true → LastOf (now (log .entry)) (r .time)) ⌝ }
+{
+    let mut l = begun(at);
+    let mut r = reader::new(log);
+    while l.more {
+        l = list_step(reader::next(r), l, s, log, index, current, out, buffer);
+        r = reader::moved(r);
+    }
+    l
 }
 
 // A line for each different time among the records, and the units.
@@ -148,20 +217,12 @@ fn list(
     requires { ⌜ 65 ≤ length (now buffer) ⌝ }
     ensures { λ r. ⌜ r ≤ 3 ⌝ }
 {
-    let mut at = lines::gather(buffer, 0, b"time page outset rows\n");
-    let mut k: u32 = 0;
-    while k < 65536 {
-        let Step::Next(r) = reader::record_of(log, RecordNumber(k)) else {
-            return list_units(s, log, index, current, buffer, at);
-        };
-        let Room::At(room) = output::make_room(buffer, at) else {
-            return output::fail();
-        };
-        let listed = list_time(s, log, index, current, r.time, out, buffer, room);
-        at = listed.at;
-        k = record_after(k, listed.requests);
+    let at = lines::gather(buffer, 0, b"time page outset rows\n");
+    let l = list_records(s, log, index, current, out, buffer, at);
+    if l.written {
+        return list_units(s, log, index, current, buffer, l.at);
     }
-    list_units(s, log, index, current, buffer, at)
+    output::fail()
 }
 
 fn print_listing(s: Numbers, log: &[u8], index: &[u64], current: &[u8]) -> u8

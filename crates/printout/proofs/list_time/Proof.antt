@@ -60,7 +60,7 @@ same-length-3 : tie.Need-same-length-3
 same-length-3 c = search needs
 
 returns-3 : tie.Need-returns-3
-returns-3 c = c .before .before .put-line .ensures .1
+returns-3 c = search needs
 
 pub list-time-spec : {M : Type 1} → statement M
 list-time-spec =
