@@ -20,7 +20,7 @@ use Rattle.model.specs.Changes.{appended, roomFor, insertQuestions, presentQues
 use Rattle.model.specs.Calls.{Call, CallFits}
 use Rattle.model.proofs.Compare.{and-left, and-right}
 use Rattle.model.proofs.AppendLaws.{last-time-snoc, last-time-update, legal-insertion, legal-deletion, legal-update}
-use Rattle.log.specs.Widths.{RecordFits, AllFit}
+use Rattle.log.specs.Widths.{RecordFits, RecordsFit}
 use Rattle.model.specs.Facts.{AuditedFacts, InOrder}
 use Rattle.claims.specs.Following.{MayFollow}
 use Rattle.model.proofs.AuditLaws.{audited-facts}
@@ -77,7 +77,7 @@ module _ (st : State) (o : InOrder st) (t a c : ℕ) (tf : t < 2 ^ 64) (af : a <
       record { size-fits = omega arith; kind-fits = omega arith; id-fits = omega arith; time-fits = tf; article-fits = af; count-fits = count-fits st (o .lendable) a }
 
   pub insertion-follows : lacks a (rowsNow st) ≡ true → st .numbers .live < st .numbers .limit → RoomFor st 1 → MayFollow st t (insertion n t a c ∷ [])
-  unfolding AllFit
+  unfolding RecordsFit
   insertion-follows absent free room =
       let rows : lacks a (table rs) ≡ true = rw now at absent in
       let space : length (table rs) < st .numbers .limit = rw (← now, ← facts .live-is) free in
@@ -100,7 +100,7 @@ module _ (st : State) (o : InOrder st) (t a c : ℕ) (tf : t < 2 ^ 64) (af : a <
       times (suc i) h = absurd (omega arith)
 
   pub deletion-follows : lacks a (rowsNow st) ≡ false → RoomFor st 1 → MayFollow st t (gone ∷ [])
-  unfolding AllFit
+  unfolding RecordsFit
   deletion-follows there room =
       record {
         legal-with =
@@ -122,7 +122,7 @@ module _ (st : State) (o : InOrder st) (t a c : ℕ) (tf : t < 2 ^ 64) (af : a <
       times (suc i) h = absurd (omega arith)
 
   pub update-follows : lacks a (rowsNow st) ≡ false → RoomFor st 2 → MayFollow st t (gone ∷ insertion (suc n) t a c ∷ [])
-  unfolding AllFit
+  unfolding RecordsFit
   update-follows there room =
       record {
         legal-with =

@@ -22,7 +22,7 @@ use Rattle.model.proofs.RecordLaws.{length-records}
 use Rattle.model.proofs.SmallLaws.{below-timeslice}
 use Rattle.model.proofs.TimeLaws.{timeslice-rows, timeslice-last}
 use Rattle.tree.proofs.Written.{with-packed}
-use Rattle.log.specs.Widths.{AllFit}
+use Rattle.log.specs.Widths.{RecordsFit}
 use Rattle.log.proofs.Appends.{all-fit-records}
 use Rattle.model.specs.Facts.{AuditedFacts}
 
@@ -32,11 +32,11 @@ length-log st = length-records (drop 24 (st .memory .log)) (st .numbers .records
 
 -- ---- records and rows fit their fields
 
-pub log-fits : (st : State) → Lendable (st .memory) → AllFit (logOf st)
+pub log-fits : (st : State) → Lendable (st .memory) → RecordsFit (logOf st)
 log-fits st l = all-fit-records (drop 24 (st .memory .log)) (st .numbers .records) (are-bytes-drop 24 (st .memory .log) (l .log-bytes))
 
-below-of-fit : (rs : List Rec) → AllFit rs → RecordsBelow (2 ^ 32) rs
-unfolding AllFit RecordsBelow
+below-of-fit : (rs : List Rec) → RecordsFit rs → RecordsBelow (2 ^ 32) rs
+unfolding RecordsFit RecordsBelow
 below-of-fit [] f = tt
 below-of-fit (r ∷ rs) f = ((f .0 .article-fits, f .0 .count-fits), below-of-fit rs (f .1))
 

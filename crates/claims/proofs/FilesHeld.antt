@@ -13,9 +13,10 @@ use Rattle.model.specs.Files.{File, filesIn, filesOf, isKept, keepQuestions, fi
 use Rattle.model.specs.Promises.{isRefused}
 use Rattle.model.specs.Facts.{InOrder}
 use Rattle.model.specs.Calls.{begun, Call, AllFit, step, run}
-use Rattle.model.specs.Demands.{left, marksAt, otherMarks, heldNext, heldAfter, some, HeldSinceKept}
+use Rattle.model.specs.Demands.{left, marksAt, otherMarks, heldNext, heldAfter, some, HeldWith, HeldSinceKept}
 use Rattle.model.proofs.Compare.{lt-eqb}
 use Rattle.model.proofs.AuditLaws.{audited-sound}
+use Rattle.model.proofs.HeldFiles.{kept-iff-held}
 use Rattle.model.proofs.RemovalLaws.{left-files}
 use Rattle.model.proofs.Untouched.{files-alike, insert-untouched, delete-untouched, update-untouched}
 use Rattle.claims.proofs.Opened.{start-audited, start-files}
@@ -158,6 +159,12 @@ run-marks t st [] f o = refl
 run-marks t st (c ∷ cs) f o =
     run-marks t (step st c) cs (f .1) (step-in-order st c (f .0) o) ∙ ap (λ (ks : List ℕ). heldAfter t ks (step st c) cs) (step-marks st o t c)
 
+-- the marks say all that is to be said of the files of a time
+held-with : (t : ℕ) (st : State) (due : List ℕ) → marksAt t (filesOf st) ≡ due → HeldWith t st due
+held-with t st due e =
+    let kept : isKept t (filesOf st) ≡ some due = kept-marked t (filesOf st) ∙ ap some e in
+    record { marks = e; kept = kept; outset = rw (← kept) (kept-iff-held st t) }
+
 -- no file at the start
 pub held-since-kept : HeldSinceKept
 unfolding filesIn marksAt
@@ -165,4 +172,4 @@ held-since-kept s cs sf cf e t =
     let st = begun s .state in
     let none : marksAt t (filesOf st) ≡ [] = rw (start-files s e) in
     let marks = run-marks t st cs cf (start-audited s sf e) ∙ ap (λ (ks : List ℕ). heldAfter t ks st cs) none in
-    record { marks = marks; kept = kept-marked t (filesOf (left s cs)) ∙ ap some marks }
+    held-with t (left s cs) (heldAfter t [] st cs) marks

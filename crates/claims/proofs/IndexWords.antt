@@ -13,7 +13,7 @@ use Rattle.model.specs.Shape.{opens, padded, leavesOf, leafWords, separator, ta
 use Rattle.model.specs.Numbering.{nodeWord}
 use Rattle.model.specs.Pages.{pageTimesFrom}
 use Rattle.model.specs.Tree.{allotted, treeOf, withNodes, withTree}
-use Rattle.log.specs.Widths.{AllFit}
+use Rattle.log.specs.Widths.{RecordsFit}
 
 -- every number of a list is below b; what lies past its end reads as 0
 abbrev pub Below : ℕ → List ℕ → Type 0
@@ -93,8 +93,8 @@ module _ (b : ℕ) (some : 0 < b) where
 
 -- ---- keys
 
-pub keys-below : (N k : ℕ) (rs : List Rec) → AllFit rs → Below (2 ^ 64) (pageTimesFrom N k rs)
-unfolding pageTimesFrom AllFit
+pub keys-below : (N k : ℕ) (rs : List Rec) → RecordsFit rs → Below (2 ^ 64) (pageTimesFrom N k rs)
+unfolding pageTimesFrom RecordsFit
 keys-below N k [] f = below-nil (2 ^ 64) (omega arith)
 keys-below N k (r ∷ rs) f = by (keys-below N (suc k) rs (f .1)) (eqb (k % N) 0)
   where

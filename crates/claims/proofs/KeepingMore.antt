@@ -5,17 +5,18 @@ use mathlib.Core.Path.{_≡_, refl, ap, _∙_, subst}
 use Rattle.model.specs.Answers.{TableSaid}
 use Rattle.model.specs.Memory.{State}
 use Rattle.model.specs.Outset.{outsetFor}
-use Rattle.model.specs.Queries.{answeredTime, Written, tableOf, Viewed, viewAt, viewOf}
+use Rattle.model.specs.Queries.{answeredTime, Written, tableOf, Viewed, viewOf}
 use Rattle.model.specs.Facts.{InOrder}
 use Rattle.model.specs.Calls.{Call, Said, written, viewed, answerOf}
+use Rattle.model.specs.Chains.{Carried}
 use Rattle.model.specs.Demands.{left, OneLog}
-use Rattle.model.specs.MoreFiles.{HoldsEvery, Defined, Made, Reports, NoMoreRequests, KeepingMore, CodeKeepingMore}
+use Rattle.model.specs.MoreFiles.{HoldsEvery, Defined, AnsweredBy, Reports, NoMoreRequests, KeepingMore, CodeKeepingMore}
 use Rattle.model.proofs.LateLaws.{answered-le}
 use Rattle.model.proofs.MoreFileLaws.{no-farther}
 use Rattle.claims.proofs.Lists.{stays-in-order}
 use Rattle.claims.proofs.SecondDemands.{table-answered}
 use Rattle.claims.proofs.SameLogs.{same-last, same-records}
-use Rattle.claims.proofs.Positions.{standing-accepted}
+use Rattle.claims.proofs.Outsets.{view-answered}
 use Rattle.claims.proofs.Made.{carried-is, ran-from-is}
 
 -- between the time answered and its outset
@@ -29,10 +30,6 @@ no-more-reported more fewer o o′ one every t =
     (no-farther more fewer (same-records more fewer o o′ one) last every (answeredTime (more .numbers .last) t) (answered-le (more .numbers .last) t))
 
 -- ---- what table and view say
-
-view-answered : (st : State) (t : ℕ) → InOrder st → viewOf st t ≡ viewAt st (answeredTime (st .numbers .last) t)
-unfolding viewOf
-view-answered st t o = rw (standing-accepted st (o .audited))
 
 written-is : {x y : Written TableSaid} → written x ≡ written y → x ≡ y
 written-is e = cc
@@ -51,7 +48,7 @@ module _ (Answered : State → Call → Said → Type 0) (defined : (st : State)
             record { said = _; answered = ap (λ (w : Written TableSaid). w .outcome) is ∙ table-answered st t out (o .audited) l; is = refl };
         views = λ view k.
             let is : view ≡ viewOf st t = viewed-is (defined st o (Call.view t) (viewed view) k) in
-            record { said = _; answered = ap (λ (v : Viewed). v .outcome) (is ∙ view-answered st t o); is = refl };
+            record { said = _; answered = ap (λ (v : Viewed). v .outcome) (is ∙ view-answered st t (o .audited)); is = refl };
       }
 
   no-more-requests : (more fewer : State) → InOrder more → InOrder fewer → OneLog more fewer → HoldsEvery more fewer → (t : ℕ) → NoMoreRequests Answered more fewer t
@@ -72,4 +69,4 @@ keeping-more s s′ cs cs′ sf sf′ cf cf′ e e′ =
 
 pub code-keeping-more : CodeKeepingMore
 code-keeping-more s s′ cs cs′ st st′ sf sf′ cf cf′ r r′ =
-    no-more-requests Made (λ st o c said k. carried-is (o .audited) (k .carried) .0) st st′ (ran-from-is sf cf r .1) (ran-from-is sf′ cf′ r′ .1)
+    no-more-requests (AnsweredBy Carried) (λ st o c said k. carried-is (o .audited) (k .made) .0) st st′ (ran-from-is sf cf r .1) (ran-from-is sf′ cf′ r′ .1)

@@ -23,3 +23,4 @@ pub mod Units
 pub mod Made
 pub mod KeepingMore
 pub mod Deletions
+pub mod Framed

@@ -8,13 +8,13 @@ use Rattle.model.specs.declared.Position.{Position}
 use Rattle.model.specs.Answers.{Outcome, TableSaid}
 use Rattle.model.specs.Memory.{State}
 use Rattle.model.specs.Starts.{Result, After, after}
-use Rattle.model.specs.Queries.{Written, Netted, tableOf}
+use Rattle.model.specs.Queries.{Written, Viewed, Netted, tableOf}
 use Rattle.model.specs.Audit.{Audited}
 use Rattle.model.specs.Units.{UnitsTell, DifferenceTells}
 use Rattle.model.specs.Facts.{InOrder}
 use Rattle.model.specs.Calls.{Start, StartFits, begun, Call, AllFit, Said, changed, positioned, written, viewed, netted, totalled, differed, cleared, audited, answerOf, step, run, Accepted}
 use Rattle.model.specs.Chains.{Carried, Ran, RanFrom}
-use Rattle.model.specs.Demands.{left, PositionTells, TableIsTimeslice, NetChangeIs, OutsetIsNearest, AnswersOf, CodeKeeps, CodeSameTables}
+use Rattle.model.specs.Demands.{left, PositionTells, TableIsTimeslice, NetChangeIs, TableFromNearest, ViewIsNearest, AnswersOf, CodeKeeps, CodeSameTables}
 use Rattle.claims.proofs.Opened.{start-audited}
 use Rattle.claims.proofs.Lists.{step-in-order}
 use Rattle.claims.proofs.SecondDemands.{demand-two}
@@ -22,6 +22,7 @@ use Rattle.claims.proofs.SameLogs.{one-table}
 use Rattle.claims.proofs.ThirdDemands.{demand-three}
 use Rattle.claims.proofs.Positions.{position-tells}
 use Rattle.claims.proofs.Units.{units-tell, difference-tells}
+use Rattle.claims.proofs.FilesHeld.{held-since-kept}
 
 -- ---- one call
 
@@ -41,8 +42,8 @@ carried-is ok (Carried.netChange a b out work p) = (ap netted (p .audited ok), r
 carried-is ok (Carried.units t p) = (ap totalled (p .audited ok), refl)
 carried-is ok (Carried.difference a b p) = (ap differed (p .audited ok), refl)
 carried-is ok (Carried.keep t k p) = made changed (p .audited ok)
-carried-is ok (Carried.drop t p) = made changed (p .audited ok)
-carried-is ok (Carried.dropMarked k p) = made cleared (p .audited ok)
+carried-is ok (Carried.drop t e) = made changed e
+carried-is ok (Carried.dropMarked k e) = made cleared e
 carried-is ok (Carried.audit e) = (ap audited e, refl)
 
 -- ---- calls one after the other
@@ -70,6 +71,9 @@ position-of e = cc
 table-of : {x y : Written TableSaid} → written x ≡ written y → y ≡ x
 table-of e = cc
 
+view-of : {x y : Viewed} → viewed x ≡ viewed y → y ≡ x
+view-of e = cc
+
 net-of : {x y : Netted} → netted x ≡ netted y → y ≡ x
 net-of e = cc
 
@@ -79,7 +83,7 @@ total-of e = cc
 difference-of : {x y : Outcome ℤ} → differed x ≡ differed y → y ≡ x
 difference-of e = cc
 
-pub answers-of : (st : State) → InOrder st → AnswersOf st
+pub answers-of : (st : State) → InOrder st → AnswersOf Carried st
 unfolding answerOf
 answers-of st o =
     let two = demand-two st o in
@@ -89,7 +93,8 @@ answers-of st o =
       positions = λ t p st' k. subst (PositionTells st t) (position-of (carried-is (o .audited) k .0)) (position-tells st (o .audited) t);
       tables = λ t out table st' l k.
           let is : tableOf st t out ≡ table = table-of (carried-is (o .audited) k .0) in
-          (subst (TableIsTimeslice st t) is (two .tables t out l), subst (OutsetIsNearest st t) is (three .outsets t out l));
+          (subst (TableIsTimeslice st t) is (two .tables t out l), subst (TableFromNearest st t) is (three .outsets t out l));
+      views = λ t view st' k. subst (ViewIsNearest st t) (view-of (carried-is (o .audited) k .0)) (three .views t);
       net-changes = λ a b out work net st' l i k.
           subst (NetChangeIs st a b) (net-of (carried-is (o .audited) k .0)) (three .net-changes a b out work l i);
       units = λ t x st' k. subst (UnitsTell st t) (total-of (carried-is (o .audited) k .0)) (units-tell st o t);
@@ -101,7 +106,21 @@ answers-of st o =
 pub code-keeps : CodeKeeps
 code-keeps s cs st sf cf r =
     let h = ran-from-is sf cf r in
-    record { is-run = h .0; audited = h .1 .audited; second = demand-two st (h .1); third = demand-three st (h .1); answered = answers-of st (h .1) }
+    let ok : Accepted (begun s) = ap (λ (y : After). y .outcome) (sym (r .accepted)) in
+    record {
+      is-run = h .0;
+      audited = h .1 .audited;
+      second = demand-two st (h .1);
+      third = demand-three st (h .1);
+      answered = answers-of st (h .1);
+      files = λ t. rw (h .0) (held-since-kept s cs sf cf ok t);
+    }
 
 pub code-same-tables : CodeSameTables
-code-same-tables s s' cs cs' st st' sf sf' cf cf' r r' one = one-table st st' (ran-from-is sf cf r .1) (ran-from-is sf' cf' r' .1) one
+unfolding answerOf
+code-same-tables s s′ cs cs′ st st′ sf sf′ cf cf′ r r′ one t out out′ x y z z′ l l′ k k′ =
+    let o = ran-from-is sf cf r .1 in
+    let o′ = ran-from-is sf′ cf′ r′ .1 in
+    let is : tableOf st t out ≡ x = table-of (carried-is (o .audited) k .0) in
+    let is′ : tableOf st′ t out′ ≡ y = table-of (carried-is (o′ .audited) k′ .0) in
+    rw (← is, ← is′) (one-table st st′ o o′ one t out out′ l l′)

@@ -12,7 +12,7 @@ use Rattle.model.proofs.Leaving.{either-left}
 use Rattle.claims.proofs.Kept.{drop-marked-audited}
 use Rattle.claims.proofs.Lists.{stays-in-order}
 use Rattle.claims.proofs.NetChanges.{net-change-is}
-use Rattle.claims.proofs.Outsets.{outset-is-nearest}
+use Rattle.claims.proofs.Outsets.{table-from-nearest, view-is-nearest}
 use Rattle.claims.proofs.SameLogs.{one-table}
 use Rattle.claims.proofs.FilesHeld.{held-since-kept}
 
@@ -20,7 +20,8 @@ pub demand-three : (st : State) → InOrder st → DemandThree st
 demand-three st o =
     record {
       net-changes = λ a b out work l k. net-change-is st o a b out work l k;
-      outsets = λ t out l. outset-is-nearest st t out (o .audited) l;
+      outsets = λ t out l. table-from-nearest st t out (o .audited) l;
+      views = λ t. view-is-nearest st t (o .audited);
     }
 
 pub same-tables : SameTables

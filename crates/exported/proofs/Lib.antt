@@ -1,0 +1,3 @@
+pub mod Refusals
+pub mod Ties
+pub mod Kept
