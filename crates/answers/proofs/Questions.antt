@@ -4,10 +4,11 @@ use native.Mathlib.Omega.{arith}
 use Rattle.model.specs.declared.Refusal.{Refusal}
 use Rattle.model.specs.declared.Refusal.the-variants.{Header, Order, PageSize, RowLimit, Memory, TimeNotAbove, ArticlePresent, ArticleAbsent, RowsFull, LogFull, IndexFull, TimeAfterLast, OutputShort, NotToKeep, CatalogueFull, NotKept, WrongRecord, WrongMark}
 use Rattle.model.specs.Answers.{refusesAt, refusal}
-use Rattle.answers.specs.Question.{questionOf, recordIn, numberOf, recordOf}
+use Rattle.model.specs.Promises.{refusedNumber}
+use Rattle.answers.specs.Question.{recordIn, numberOf, recordOf}
 
 pub wrong-record-at-17 : {A : Type 0} (why : Refusal) → numberOf why ≡ 17 → refusal {A = A} why ≡ refusesAt 17 (recordOf why)
-unfolding refusal questionOf recordIn
+unfolding refusal refusedNumber recordIn
 wrong-record-at-17 Header e = absurd (omega arith)
 wrong-record-at-17 Order e = absurd (omega arith)
 wrong-record-at-17 PageSize e = absurd (omega arith)

@@ -2,12 +2,7 @@
 use Prim.Native.Nat.{ℕ}
 use Rattle.model.specs.declared.Refusal.{Refusal}
 use Rattle.model.specs.Answers.{Outcome, answers, refuses, refusesAt, refusal}
-
--- the number of the question answered no, 0 for an answer
-unfoldable pub questionOf : {A : Type 0} → Outcome A → ℕ
-questionOf (answers x) = 0
-questionOf (refuses k) = k
-questionOf (refusesAt k r) = k
+use Rattle.model.specs.Promises.{refusedNumber}
 
 -- the record number, 0 if there is none
 unfoldable pub recordIn : {A : Type 0} → Outcome A → ℕ
@@ -17,7 +12,7 @@ recordIn (refusesAt k r) = r
 
 -- both of a refusal
 abbrev pub numberOf : Refusal → ℕ
-numberOf why = questionOf {A = Unit} (refusal why)
+numberOf why = refusedNumber {A = Unit} (refusal why)
 
 abbrev pub recordOf : Refusal → ℕ
 recordOf why = recordIn {A = Unit} (refusal why)

@@ -25,7 +25,7 @@ abbrev pub closedTo : (Entry → Bool) → ℕ → List Entry → List ℕ → �
 closedTo stays R es areas i = put areas 0 (areasBytes (leftOf stays R es areas i))
 
 module _ (stays : Entry → Bool) (R : ℕ) (es : List Entry) (areas : List ℕ) where
-  pub left-few : (i : ℕ) → i ≤ length es → length (leftOf stays R es areas i) ≤ i
+  left-few : (i : ℕ) → i ≤ length es → length (leftOf stays R es areas i) ≤ i
   left-few i h =
       omega (arith, length-staying stays (filesIn R areas 0 (take i es)), length-files-in R areas 0 (take i es), length-take-le i es h)
 

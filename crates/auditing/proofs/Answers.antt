@@ -22,7 +22,7 @@ use Rattle.model.specs.Facts.{AuditedFacts}
 use Rattle.model.proofs.Compare.{and-both}
 use Rattle.model.proofs.AuditLaws.{capacity-entries, audited-facts, audited-sound, test-of-files}
 use Rattle.catalogue.specs.declared.Catalogue.{Catalogue}
-use Rattle.catalogue.specs.Files.{byValue, Loaded}
+use Rattle.catalogue.specs.ByValue.{byValue, Loaded}
 use Rattle.catalogue.proofs.EntryLaws.{loaded-by-value}
 use Rattle.limits.specs.Fit.{Fit}
 use Rattle.tree_audit.specs.Times.{Decides}

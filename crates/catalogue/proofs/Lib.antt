@@ -1,4 +1,4 @@
-pub mod Candidates
+pub mod CandidateLaws
 pub mod EntryLaws
 pub mod Sixteen
 pub mod EntryTurns

@@ -1,3 +1,3 @@
-pub mod Files
-pub mod Places
+pub mod ByValue
+pub mod Candidates
 pub mod Entries

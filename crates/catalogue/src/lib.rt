@@ -1,51 +1,28 @@
-// The catalogue of count files by value (01, "Count files"): its capacity, which count file is nearest to a time on
-// either side, and its entries with one more or with fewer. How its entries are lent, and how they come here, is the
-// crate `entries`.
+// The catalogue of count files (01, "Count files"): its capacity, and what each of its entries comes to: which held tables are
+// nearest to a time, where a file of a time goes, which files stay. The lent slice of entries is gone along by the crate
+// `entries`; here is what it does with each.
 ghost use mathlib.Core.Path.{_≡_};
-ghost use mathlib.Core.List.{List};
 ghost use mathlib.Core.Bool.{_&&_, cond};
-ghost use Prim.Native.Nat.{ℕ, _+_, _-_, _≤_, _<_, min};
-ghost use lib.ListN.{length, take, getD, replicate};
-ghost use lib.Dec.{leb, ltb};
-ghost use Rattle.codec.specs.Parts.{put};
-ghost use Rattle.model.specs.declared.Entry.{Entry};
-ghost use Rattle.model.specs.Outset.{emptyTable, filesFrom, latest, earliest};
+ghost use Prim.Native.Nat.{_+_, _*_, _≤_, _<_, min};
+ghost use lib.ListN.{getD};
+ghost use lib.Dec.{leb, ltb, eqb};
+ghost use Rattle.model.specs.declared.Place.the-variants.{Empty, Area, Current};
 ghost use Rattle.model.specs.Marks as marks;
 ghost use Rattle.model.specs.Memory as memory;
 ghost use Rattle.model.specs.Memory.{noEntry};
-ghost use Rattle.catalogue.specs.Files.{Loaded};
-ghost use Rattle.catalogue.specs.Entries.{timeKept, placeOf, withEntries, entryPut, staysWhen, entriesStaying, entriesClosed};
-ghost use Rattle.catalogue.specs.Places.{heldAt, PlaceWithin};
+ghost use Rattle.model.specs.Queries.{answeredTime};
+ghost use Rattle.catalogue.specs.Candidates.{nearAt, noneAround, nearerBy, heldBy};
+ghost use Rattle.catalogue.specs.declared.Going.the-variants.{Of, Marked};
+ghost use Rattle.catalogue.specs.Entries.{staysWhen, flagAt};
 use model::Entry;
 use model::Held;
+use model::Numbers;
 use model::Place;
-use model::Settings;
 
 // The catalogue by value: the first 16 entries, zero entries where fewer are lent, and how many are lent.
 pub struct Catalogue {
     pub entries: [Entry; 16],
     pub lent: usize,
-}
-
-// Which count files go: that of a time, or those of a mark.
-pub enum Going {
-    Of(u64),
-    Marked(u32),
-}
-
-// A catalogue of which some files are let go, and how many stay.
-pub struct Left {
-    pub catalogue: Catalogue,
-    pub files: usize,
-}
-
-fn least(a: usize, b: usize) -> usize
-    ensures { λ r. ⌜ r ≡ min a b ⌝ }
-{
-    if a < b {
-        return a;
-    }
-    b
 }
 
 // How many count files the lent entries and areas have room for.
@@ -56,10 +33,18 @@ pub fn capacity(limit: u32, entries: usize, area_bytes: usize) -> usize
     ensures few { λ r. ⌜ r ≤ 16 ⌝ }
 {
     let areas = area_bytes / (8 * (limit as usize));
-    least(Settings::FILES_MAX, least(entries, areas))
+    codec::least(Numbers::FILES_MAX, codec::least(entries, areas))
 }
 
-// Entry i of a catalogue, and the table that its file holds.
+// How many of the lent entries are looked at, whatever the numbers say: those used, at most 16.
+pub fn looked_at(files: u32, lent: usize) -> usize
+    ensures is { λ r. ⌜ r ≡ min (min 16 files) lent ⌝ }
+    ensures few { λ r. ⌜ (r ≤ 16) × (r ≤ lent) ⌝ }
+{
+    codec::least(codec::least(Numbers::FILES_MAX, files as usize), lent)
+}
+
+// Entry i of a catalogue by value.
 pub fn entry_of(c: Catalogue, i: usize) -> Entry
     requires { ⌜ i < 16 ⌝ }
     ensures { λ r. ⌜ r ≡ getD (c .entries) i noEntry ⌝ }
@@ -67,76 +52,143 @@ pub fn entry_of(c: Catalogue, i: usize) -> Entry
     c.entries[i]
 }
 
-fn held_at(c: Catalogue, i: usize) -> Held
-    requires { ⌜ i < 16 ⌝ }
-    ensures { λ r. ⌜ r ≡ heldAt c i ⌝ }
+// An entry of no file.
+pub fn no_entry() -> Entry
+    ensures { λ r. ⌜ r ≡ noEntry ⌝ }
 {
-    let e = entry_of(c, i);
-    Held {
-        time: e.time,
-        place: Place::Area(i as u32),
-        rows: e.rows,
+    Entry {
+        time: 0,
+        rows: 0,
+        mark: Entry::PERMANENT,
+    }
+}
+
+// ---- the nearest held tables
+
+// A held table: its time, the number of its area, 16 where it is no count file's, and its rows.
+pub struct Near {
+    pub time: u64,
+    pub area: u32,
+    pub rows: u32,
+}
+
+// The nearest found so far at or before a time, and at or after it.
+pub struct Around {
+    pub early: Near,
+    pub late: Near,
+}
+
+// The two tables that an outset is chosen from, and how many entries are lent.
+pub struct Candidates {
+    pub early: Held,
+    pub late: Held,
+    pub lent: usize,
+}
+
+// The time that a query answers where t is asked for: a time after the last request is answered as the last.
+pub fn answered_time(last: u64, t: u64) -> u64
+    ensures { λ r. ⌜ r ≡ answeredTime last t ⌝ }
+{
+    if last < t {
+        return last;
+    }
+    t
+}
+
+// Before any entry: the empty table of time 0, and the current table.
+pub fn none_around(s: Numbers) -> Around
+    ensures { λ r. ⌜ r ≡ noneAround s ⌝ }
+{
+    Around {
+        early: Near {
+            time: 0,
+            area: 16,
+            rows: 0,
+        },
+        late: Near {
+            time: s.last,
+            area: 16,
+            rows: s.live,
+        },
     }
 }
 
 // The later of two tables, of those at or before t.
-fn later_one(best: Held, h: Held, t: u64) -> Held
-    ensures { λ r. ⌜ r ≡ cond (leb (h .time) t && ltb (best .time) (h .time)) h best ⌝ }
+fn later_one(best: Near, i: usize, e: Entry, t: u64) -> Near
+    requires { ⌜ i < 16 ⌝ }
+    ensures { λ r. ⌜ r ≡ cond (leb (e .time) t && ltb (best .time) (e .time)) (nearAt i e) best ⌝ }
 {
-    if t < h.time {
+    if t < e.time {
         return best;
     }
-    if h.time <= best.time {
+    if e.time <= best.time {
         return best;
     }
-    h
+    Near {
+        time: e.time,
+        area: i as u32,
+        rows: e.rows,
+    }
 }
 
-// The earlier of two tables, of those at or after t; the second on a tie.
-fn earlier_one(best: Held, h: Held, t: u64) -> Held
-    ensures { λ r. ⌜ r ≡ cond (leb t (h .time) && leb (h .time) (best .time)) h best ⌝ }
+// The earlier of two tables, of those at or after t; a count file before the current table.
+fn earlier_one(best: Near, i: usize, e: Entry, t: u64) -> Near
+    requires { ⌜ i < 16 ⌝ }
+    ensures { λ r. ⌜ r ≡ cond (leb t (e .time) && leb (e .time) (best .time)) (nearAt i e) best ⌝ }
 {
-    if h.time < t {
+    if e.time < t {
         return best;
     }
-    if best.time < h.time {
+    if best.time < e.time {
         return best;
     }
-    h
+    Near {
+        time: e.time,
+        area: i as u32,
+        rows: e.rows,
+    }
 }
 
-// The nearest table at or before t: that of a count file, or the empty table of time 0.
-pub fn earlier(c: Catalogue, files: usize, t: u64) -> Held
-    requires { ⌜ files ≤ 16 ⌝ }
-    ensures is { λ r. ⌜ ((entries : List Entry) → Loaded entries files c → r ≡ latest t emptyTable (filesFrom 0 (take files entries))) ⌝ }
-    ensures within { λ r. ⌜ PlaceWithin files (r .place) ⌝ }
+// The nearest tables with entry i besides.
+pub fn nearer(a: Around, i: usize, e: Entry, t: u64) -> Around
+    requires { ⌜ i < 16 ⌝ }
+    ensures { λ r. ⌜ r ≡ nearerBy t a i e ⌝ }
 {
-    let mut best = Held {
-        time: 0,
-        place: Place::Empty,
-        rows: 0,
-    };
-    let mut i = 0;
-    while i < files {
-        best = later_one(best, held_at(c, i), t);
-        i += 1;
+    let early = a.early;
+    let late = a.late;
+    Around {
+        early: later_one(early, i, e, t),
+        late: earlier_one(late, i, e, t),
     }
-    best
 }
 
-// The nearest table at or after t: that of a count file, or the current table.
-pub fn later(c: Catalogue, files: usize, t: u64, current: Held) -> Held
-    requires { ⌜ files ≤ 16 ⌝ }
-    ensures is { λ r. ⌜ ((entries : List Entry) → Loaded entries files c → r ≡ earliest t current (filesFrom 0 (take files entries))) ⌝ }
-    ensures within { λ r. ⌜ (PlaceWithin files (current .place) → PlaceWithin files (r .place)) ⌝ }
+// The place of a table: an area, or another where it is no count file's.
+fn place_or(area: u32, none: Place) -> Place
+    ensures { λ r. ⌜ r ≡ cond (eqb area 16) none (Area area) ⌝ }
 {
-    let mut best = current;
-    let mut i = 0;
-    while i < files {
-        best = earlier_one(best, held_at(c, i), t);
-        i += 1;
+    if area == 16 {
+        return none;
     }
-    best
+    Place::Area(area)
+}
+
+// The two tables as held, where so many entries are lent.
+pub fn as_candidates(a: Around, lent: usize) -> Candidates
+    ensures { λ r. ⌜ r ≡ record { early = heldBy Empty (a .early); late = heldBy Current (a .late); lent = lent } ⌝ }
+{
+    Candidates {
+        early: Held {
+            time: a.early.time,
+            place: place_or(a.early.area, Place::Empty),
+            rows: a.early.rows,
+        },
+        late: Held {
+            time: a.late.time,
+            place: place_or(a.late.area, Place::Current),
+            rows: a.late.rows,
+        },
+        lent,
+    }
 }
 
 // ---- marks
@@ -161,71 +213,55 @@ pub fn is_mark(mark: u32) -> bool
     goes(mark)
 }
 
-// ---- the entries with one more, or with fewer
+// ---- one file more
 
-// An entry of no file.
-pub fn no_entry() -> Entry
-    ensures { λ r. ⌜ r ≡ noEntry ⌝ }
+// The place for a file of time t among the entries up to i, that among those before being `at`: one on for each entry before
+// it whose time is smaller.
+pub fn place_past(at: usize, i: usize, e: Entry, t: u64) -> usize
+    requires { ⌜ i < 16 ⌝ }
+    ensures { λ r. ⌜ r ≡ cond (eqb at i && ltb (e .time) t) (i + 1) at ⌝ }
 {
-    Entry {
-        time: 0,
-        rows: 0,
-        mark: Entry::PERMANENT,
+    if at != i {
+        return at;
     }
+    if t <= e.time {
+        return at;
+    }
+    i + 1
 }
 
-// Whether a count file of time t is kept.
-pub fn is_kept(c: Catalogue, files: usize, t: u64) -> bool
-    requires { ⌜ files ≤ 16 ⌝ }
-    ensures { λ r. ⌜ r ≡ timeKept t (take files (c .entries)) ⌝ }
-{
-    let mut i = 0;
-    while i < files {
-        let file = entry_of(c, i);
-        if file.time == t {
-            return true;
-        }
-        i += 1;
-    }
-    false
+// ---- fewer files
+
+// Which count files go: that of a time, or those of a mark.
+pub enum Going {
+    Of(u64),
+    Marked(u32),
 }
 
-// Where the file of time t goes: before the first whose time is not smaller.
-pub fn place(c: Catalogue, files: usize, t: u64) -> usize
-    requires { ⌜ files ≤ 16 ⌝ }
-    ensures is { λ r. ⌜ r ≡ placeOf t (take files (c .entries)) ⌝ }
-    ensures within { λ r. ⌜ r ≤ files ⌝ }
-{
-    let mut i = 0;
-    while i < files {
-        let next = entry_of(c, i);
-        if t <= next.time {
-            return i;
-        }
-        i += 1;
-    }
-    i
+// Of each entry whether its file stays, as one number: entry i's digit has the weight 2 ^ i. Beside it the weight of the next
+// entry's digit, how many stay, and how many entries are lent. A number stays in registers where an array would be copied at
+// each entry.
+pub struct Staying {
+    pub flags: u32,
+    pub next: u32,
+    pub count: u32,
+    pub lent: usize,
 }
 
-// The entries from place `at` on go up, from the last down, and e takes the place.
-pub fn inserted(c: Catalogue, files: usize, at: usize, e: Entry) -> Catalogue
-    requires { ⌜ at ≤ files ⌝ }
-    requires { ⌜ files < 16 ⌝ }
-    ensures { λ r. ⌜ r ≡ withEntries c (entryPut (c .entries) files at e) ⌝ }
+pub fn of_time(t: u64) -> Going
+    ensures { λ r. ⌜ r ≡ Of t ⌝ }
 {
-    let mut d = c;
-    let mut i = files;
-    while at < i {
-        i -= 1;
-        let moved = entry_of(d, i);
-        d.entries[i + 1] = moved;
-    }
-    d.entries[at] = e;
-    d
+    Going::Of(t)
+}
+
+pub fn of_mark(mark: u32) -> Going
+    ensures { λ r. ⌜ r ≡ Marked mark ⌝ }
+{
+    Going::Marked(mark)
 }
 
 // Whether the file of entry e stays where others go.
-pub fn stays(e: Entry, going: Going) -> bool
+fn stays(e: Entry, going: Going) -> bool
     ensures { λ r. ⌜ r ≡ staysWhen going e ⌝ }
 {
     match going {
@@ -234,52 +270,60 @@ pub fn stays(e: Entry, going: Going) -> bool
     }
 }
 
-// The place for the next entry that stays, where e stands at place j.
-fn next_place(e: Entry, going: Going, j: usize) -> usize
-    requires { ⌜ j < 16 ⌝ }
-    ensures { λ r. ⌜ r ≡ cond (staysWhen going e) (j + 1) j ⌝ }
+// Before any entry.
+pub fn none_staying(lent: usize) -> Staying
+    ensures { λ r. ⌜ r ≡ record { flags = 0; next = 1; count = 0; lent = lent } ⌝ }
+{
+    Staying {
+        flags: 0,
+        next: 1,
+        count: 0,
+        lent,
+    }
+}
+
+// With entry i besides.
+pub fn noted(x: Staying, i: usize, e: Entry, going: Going) -> Staying
+    requires { ⌜ i < 16 ⌝ }
+    requires { ⌜ (x .count ≤ i) × ((x .flags < x .next) × (x .next ≤ 32768)) ⌝ }
+    ensures { λ r. ⌜ r ≡ record {
+      flags = cond (staysWhen going e) (x .flags + x .next) (x .flags);
+      next = 2 * x .next;
+      count = cond (staysWhen going e) (x .count + 1) (x .count);
+      lent = x .lent;
+    } ⌝ }
 {
     if stays(e, going) {
+        return Staying {
+            flags: x.flags + x.next,
+            next: 2 * x.next,
+            count: x.count + 1,
+            lent: x.lent,
+        };
+    }
+    Staying {
+        flags: x.flags,
+        next: 2 * x.next,
+        count: x.count,
+        lent: x.lent,
+    }
+}
+
+// Whether the file of entry i stays.
+pub fn stays_at(x: Staying, i: usize) -> bool
+    requires { ⌜ i < 16 ⌝ }
+    ensures { λ r. ⌜ r ≡ flagAt x i ⌝ }
+{
+    (x.flags >> i) % 2 == 1
+}
+
+// The place for the next file that stays, where that of entry i is j.
+pub fn next_place(x: Staying, i: usize, j: usize) -> usize
+    requires { ⌜ (i < 16) × (j < 16) ⌝ }
+    ensures { λ r. ⌜ r ≡ cond (flagAt x i) (j + 1) j ⌝ }
+{
+    if stays_at(x, i) {
         return j + 1;
     }
     j
-}
-
-// Zero entries from `start` up to `end`.
-fn emptied(c: Catalogue, start: usize, end: usize) -> Catalogue
-    requires { ⌜ start ≤ end ⌝ }
-    requires { ⌜ end ≤ 16 ⌝ }
-    ensures { λ r. ⌜ r ≡ withEntries c (put (c .entries) start (replicate (end - start) noEntry)) ⌝ }
-{
-    let none = no_entry();
-    let mut d = c;
-    let mut k = start;
-    while k < end {
-        d.entries[k] = none;
-        k += 1;
-    }
-    d
-}
-
-// Of the first `files` entries those that stay, closed up, and zero entries behind them. Each is written to the next free place, and
-// written over there if it goes.
-pub fn closed_up(c: Catalogue, files: usize, going: Going) -> Left
-    requires { ⌜ files ≤ 16 ⌝ }
-    ensures is { λ r. ⌜ r .catalogue ≡ withEntries c (entriesClosed (staysWhen going) files (c .entries)) ⌝ }
-    ensures count { λ r. ⌜ r .files ≡ length (entriesStaying (staysWhen going) (take files (c .entries))) ⌝ }
-    ensures within { λ r. ⌜ r .files ≤ files ⌝ }
-{
-    let mut d = c;
-    let mut i = 0;
-    let mut j = 0;
-    while i < files {
-        let e = entry_of(c, i);
-        d.entries[j] = e;
-        j = next_place(e, going, j);
-        i += 1;
-    }
-    Left {
-        catalogue: emptied(d, j, files),
-        files: j,
-    }
 }

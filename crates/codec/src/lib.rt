@@ -1,10 +1,30 @@
-// Little-endian numbers in byte slices, and the moves of bytes that every layer above uses.
+// Little-endian numbers in byte slices, and the moves of bytes that every layer above uses; the smaller of two numbers.
 // Each function does what one definition of specs/ says, on any bytes; none knows what the bytes mean.
 ghost use mathlib.Core.Path.{_≡_};
-ghost use Prim.Native.Nat.{_+_, _-_, _≤_, _<_};
+ghost use Prim.Native.Nat.{_+_, _-_, _≤_, _<_, min};
 ghost use lib.ListN.{length};
 ghost use Rattle.codec.specs.LittleEndian.{number, bytes};
 ghost use Rattle.codec.specs.Parts.{zeros, put, movedUp, movedDown, same};
+
+// ---- the smaller of two numbers
+
+pub fn least(x: usize, y: usize) -> usize
+    ensures { λ r. ⌜ r ≡ min x y ⌝ }
+{
+    if x <= y {
+        return x;
+    }
+    y
+}
+
+pub fn least32(x: u32, y: u32) -> u32
+    ensures { λ r. ⌜ r ≡ min x y ⌝ }
+{
+    if x <= y {
+        return x;
+    }
+    y
+}
 
 // ---- numbers: each width is two halves of the width below, the low half first
 

@@ -19,7 +19,7 @@ use Rattle.model.proofs.ReportLaws.{asc-timeslice}
 use Rattle.model.proofs.SmallLaws.{below-timeslice}
 use Rattle.rows.proofs.TableBytes.{take-all-rows, length-table-bytes}
 use Rattle.walk.proofs.StartLaws.{small-records}
-use Rattle.catalogue.specs.declared.Catalogue.{Catalogue}
+use Rattle.catalogue.specs.declared.Candidates.{Candidates}
 use Rattle.tables.specs.declared.Worked.{Worked}
 use Rattle.tables.specs.Ways.{WorkedOut}
 use Rattle.tables.proofs.LentFronts.{front-back, lent-beyond}
@@ -44,16 +44,16 @@ halves size xs ys zs lx ly lz =
     (second ∙ ap (λ (n : ℕ). put (put xs 0 ys) n zs) (sym (zero-add (length ys) ∙ ly)) ∙ put-append xs 0 ys zs (omega arith)
     ∙ put-whole xs (ys ++ zs) (rw (length-append, ly, lz, lx) (omega arith)))
 
-pub both-worked-out : (s : Numbers) (log index current areas : List ℕ) (c : Catalogue) (a b : ℕ) (v w : Worked) (work : List ℕ) {ys zs : List ℕ}
+pub both-worked-out : (s : Numbers) (log index current areas : List ℕ) (first second : Candidates) (a b : ℕ) (v w : Worked) (work : List ℕ) {ys zs : List ℕ}
     → length work ≡ 16 * s .limit → length ys ≡ 8 * s .limit → length zs ≡ 8 * s .limit
-    → WorkedOut s log index current areas c a v ys → WorkedOut s log index current areas c b w zs
-    → BothWorkedOut s log index current areas c a b (record { first = v .rows; second = w .rows })
+    → WorkedOut s log index current areas first a v ys → WorkedOut s log index current areas second b w zs
+    → BothWorkedOut s log index current areas first second a b (record { first = v .rows; second = w .rows })
     (putMid (8 * s .limit) (2 * (8 * s .limit) - 8 * s .limit) (putMid 0 (8 * s .limit - 0) work ys) zs)
-both-worked-out s log index current areas c a b v w work {ys} {zs} l ly lz first second =
+both-worked-out s log index current areas first second a b v w work {ys} {zs} l ly lz one two =
     record {
-      on = λ entries has ok.
-          let p = first .on entries has ok in
-          let q = second .on entries has ok in
+      on = λ entries e f ok.
+          let p = one .on entries e ok in
+          let q = two .on entries f ok in
           (rw (p .0, q .0), halves (8 * s .limit) work ys zs (omega arith) ly lz ∙ rw (p .1, q .1));
     }
 

@@ -9,8 +9,8 @@ use Rattle.model.specs.Rows.{tableBytes}
 use Rattle.model.specs.Queries.{rowsAt}
 use Rattle.model.specs.Audit.{Audited}
 use Rattle.model.specs.Promises.{storeOf}
-use Rattle.catalogue.specs.declared.Catalogue.{Catalogue}
-use Rattle.catalogue.specs.Files.{Loaded}
+use Rattle.catalogue.specs.declared.Candidates.{Candidates}
+use Rattle.catalogue.specs.Candidates.{candidatesIn}
 use Rattle.tables.specs.Ways.{Ready}
 use Rattle.comparing.specs.declared.Both.{Both}
 
@@ -21,8 +21,8 @@ pub record BothReady (s : Numbers) (log index a b work : ℕ) : Type 0 where
   pub work-is : work ≡ 16 * s .limit
 
 -- on audited memory work is table a and then table b, and n says their rows
-pub record BothWorkedOut (s : Numbers) (log index current areas : List ℕ) (c : Catalogue) (a b : ℕ) (n : Both) (work : List ℕ) : Type 0 where
-  pub on : (entries : List Entry) → Loaded entries (s .files) c
+pub record BothWorkedOut (s : Numbers) (log index current areas : List ℕ) (first second : Candidates) (a b : ℕ) (n : Both) (work : List ℕ) : Type 0 where
+  pub on : (entries : List Entry) → first ≡ candidatesIn s a entries → second ≡ candidatesIn s b entries
       → let st = storeOf s log index current entries areas in Audited st
       → (n ≡ record { first = length (rowsAt st a); second = length (rowsAt st b) })
       × (work ≡ tableBytes (s .limit) (rowsAt st a) ++ tableBytes (s .limit) (rowsAt st b))

@@ -9,10 +9,10 @@ ghost use Rattle.model.specs.declared.Entry.{Entry};
 ghost use Rattle.model.specs.Answers.{netChangeOutcome};
 ghost use Rattle.model.specs.Promises.{storeOf, NetChangePromise};
 ghost use Rattle.tree.specs.Places.{Seen, stretchLent};
-ghost use Rattle.catalogue.specs.Files.{byValue};
+ghost use Rattle.catalogue.specs.Candidates.{candidatesIn};
 ghost use Rattle.netting.specs.Merge.{Merges};
 ghost use Rattle.comparing.specs.Both.{BothReady, BothWorkedOut, Comparable};
-use catalogue::Catalogue;
+use catalogue::Candidates;
 use model::NetChangeAnswer;
 use model::Numbers;
 use model::Refusal;
@@ -33,7 +33,8 @@ fn work_out_both<'a>(
     words: usize,
     current: &'a [u8],
     areas: &'a [u8],
-    c: Catalogue,
+    first: Candidates,
+    second: Candidates,
     a: u64,
     b: u64,
     work: &mut [u8],
@@ -41,10 +42,10 @@ fn work_out_both<'a>(
     requires { ⌜ BothReady s (length (now log)) words a b (length (now work)) ⌝ }
     requires { ⌜ Seen (s .order) extent (now starts) words (length (now index)) ⌝ }
     ensures within { λ n. ⌜ (n .first ≤ s .limit) × (n .second ≤ s .limit) ⌝ }
-    ensures worked { λ n. ⌜ BothWorkedOut s (now (log .entry)) (stretchLent (s .order) extent starts words index) (now (current .entry)) (now (areas .entry)) c a b n (now (work .exit)) ⌝ }
+    ensures worked { λ n. ⌜ BothWorkedOut s (now (log .entry)) (stretchLent (s .order) extent starts words index) (now (current .entry)) (now (areas .entry)) first second a b n (now (work .exit)) ⌝ }
 {
     let size = 8 * (s.limit as usize);
-    let first = tables::work_out(
+    let before = tables::work_out(
         s,
         log,
         index,
@@ -53,11 +54,11 @@ fn work_out_both<'a>(
         words,
         current,
         areas,
-        c,
+        first,
         a,
         &mut work[0..size],
     );
-    let second = tables::work_out(
+    let after = tables::work_out(
         s,
         log,
         index,
@@ -66,13 +67,13 @@ fn work_out_both<'a>(
         words,
         current,
         areas,
-        c,
+        second,
         b,
         &mut work[size..2 * size],
     );
     Both {
-        first: first.rows,
-        second: second.rows,
+        first: before.rows,
+        second: after.rows,
     }
 }
 
@@ -99,7 +100,8 @@ pub fn net_change<'a>(
     starts: &[u64],
     words: usize,
     current: &'a [u8],
-    c: Catalogue,
+    first: Candidates,
+    second: Candidates,
     areas: &'a [u8],
     a: u64,
     b: u64,
@@ -107,11 +109,11 @@ pub fn net_change<'a>(
     work: &mut [u8],
 ) -> NetChangeAnswer
     requires { ⌜ Seen (s .order) extent (now starts) words (length (now index)) ⌝ }
-    ensures { λ r. ⌜ ((catalogue : List Entry) → c ≡ byValue catalogue
+    ensures { λ r. ⌜ ((catalogue : List Entry) → first ≡ candidatesIn s a catalogue → second ≡ candidatesIn s b catalogue
         → NetChangePromise (storeOf s (now (log .entry)) (stretchLent (s .order) extent starts words index) (now (current .entry)) catalogue (now (areas .entry))) a b
         (now (out .entry)) (now (work .entry)) (netChangeOutcome r) (now (out .exit)) (now (work .exit))) ⌝ }
 {
-    if limits::is_sound(s, log, words, current.len(), c.lent, areas.len()) {} else {
+    if limits::is_sound(s, log, words, current.len(), first.lent, areas.len()) {} else {
         return NetChangeAnswer::Refused(Refusal::Header);
     }
     let size = 24 * (s.limit as usize);
@@ -122,8 +124,8 @@ pub fn net_change<'a>(
     if work.len() < space {
         return NetChangeAnswer::Refused(Refusal::OutputShort);
     }
-    let from = tables::answered_time(s.last, a);
-    let to = tables::answered_time(s.last, b);
+    let from = catalogue::answered_time(s.last, a);
+    let to = catalogue::answered_time(s.last, b);
     let n = work_out_both(
         s,
         log,
@@ -133,7 +135,8 @@ pub fn net_change<'a>(
         words,
         current,
         areas,
-        c,
+        first,
+        second,
         from,
         to,
         &mut work[0..space],

@@ -62,7 +62,7 @@ fn in_leaf(
     ensures { λ c. ⌜ Found (placeOf d extent (now (starts .entry))) (now (index .entry)) d k t a 1 c ⌝ }
 {
     let before = a * (d - 1);
-    let used = tree::at_most(d - 1, k - before);
+    let used = codec::least32(d - 1, k - before);
     let at = tree::node_word(extent, starts, d, first);
     let j = cut(index, at, used as usize, t);
     before + (j as u32)
@@ -114,7 +114,7 @@ fn child_node(first: NodeNumber, under: u32, j: u32) -> NodeNumber
     requires { ⌜ first .0 + j * under + 1 < 4294967296 ⌝ }
     ensures { λ r. ⌜ r .0 ≡ childNode (first .0) under j ⌝ }
 {
-    NodeNumber(first.0 + j * under + tree::at_most(j, 1))
+    NodeNumber(first.0 + j * under + codec::least32(j, 1))
 }
 
 // The leaves below each word one level down, 0 for a leaf's keys: at the lowest levels without a division.
@@ -155,7 +155,7 @@ fn descend(
     let j = in_node(*index, extent, *starts, d, u, under, first, r, t);
     let child = child_node(first, under, j);
     let past = j * u;
-    let left = tree::at_most(u, r - past);
+    let left = codec::least32(u, r - past);
     let next = unit_below(d, level, u);
     descend(
         index,

@@ -40,8 +40,8 @@ use Rattle.entries.proofs.count as count-fn
 use Rattle.entries.proofs.count.Symbol.{name as #entries·count}
 use Rattle.numbered.proofs.insert as insert
 use Rattle.embed.proofs.yk_insert as yk-insert
-use Rattle.embed.proofs.Bodies.{value, slice, entry, copies, relent}
-use Rattle.embed.proofs.Shells.{Laws, number, numbers, read, written, shell}
+use Rattle.entries.proofs.Bodies.{value, slice, entry, copies, relent}
+use Rattle.entries.proofs.Shells.{Laws, number, numbers, read, written, shell}
 
 abbrev pub function : Name → Fn
 function g = record {

@@ -1,14 +1,15 @@
-// How C and Rust call the store (include/yokefennel.h). Each exported function lends its catalogue as a slice of entries and
-// is a shell: it counts or loads the entries, makes the call of `numbered`, and clears or saves them.
+// How C and Rust call the store (include/yokefennel.h). Each exported function is lent the catalogue as a slice of entries and
+// is a shell: it asks of the entries what the call needs to know, makes the call of `numbered`, and changes the entries by what
+// that answers.
 ghost use mathlib.Core.Path.{_≡_};
 ghost use mathlib.Core.List.{List};
 ghost use Prim.Native.Nat.{ℕ, _+_, _*_};
 ghost use Rattle.model.specs.Starts.{freshOf, openOf};
-ghost use Rattle.model.specs.Changes.{insertOf, deleteOf, updateOf};
-ghost use Rattle.model.specs.Files.{keepOf, dropOf, dropMarkedOf};
+ghost use Rattle.model.specs.Changes.{insertQuestions, presentQuestions, insertOf, deleteOf, updateOf};
+ghost use Rattle.model.specs.Files.{dropOf, dropMarkedOf};
 ghost use Rattle.model.specs.Audit.{auditOf};
 ghost use Rattle.numbered.specs.Lent.{memoryOf, memoryLent};
-ghost use Rattle.numbered.specs.Crossed.{StartCrossed, AppendCrossed, PositionCrossed, TableCrossed, ViewCrossed, NetChangeCrossed, UnitsCrossed, DifferenceCrossed, FilesCrossed, DropMarkedCrossed, LengthsCrossed};
+ghost use Rattle.numbered.specs.Crossed.{ExactlyCrossed, AppendCrossed, PositionCrossed, TableCrossed, ViewCrossed, NetChangeCrossed, UnitsCrossed, DifferenceCrossed, KeepCrossed, DropMarkedCrossed, LengthsCrossed};
 ghost use Rattle.numbered.specs.Answers.{yesOut};
 ghost use Rattle.embed.specs.Regions.{asLent, asLeft};
 use model::Entry;
@@ -58,12 +59,12 @@ pub extern "C" fn yk_fresh(
     areas: &[u8],
 ) -> YkChange
     ensures { λ r. ⌜ ((index : List ℕ)
-        → StartCrossed r (memoryOf (now (log .exit)) index (now (current .exit)) (now (entries .exit)) (now (areas .exit)))
+        → ExactlyCrossed r (memoryOf (now (log .exit)) index (now (current .exit)) (now (entries .exit)) (now (areas .exit)))
         (freshOf order page limit (memoryOf (now (log .entry)) index (now (current .entry)) (now (entries .entry)) (now (areas .entry))))) ⌝ }
 {
     let n = entries::count(entries);
     let r = numbered::fresh(order, page, limit, log, current, n, areas.len());
-    entries::clear(entries, r.clears);
+    entries::clear(entries, 0, r.clears);
     numbered::answer::begun_change(r)
 }
 
@@ -75,12 +76,12 @@ pub extern "C" fn yk_open(
     entries: &mut [Entry],
     areas: &[u8],
 ) -> YkChange
-    ensures { λ r. ⌜ StartCrossed r (asLeft log index current entries areas)
+    ensures { λ r. ⌜ ExactlyCrossed r (asLeft log index current entries areas)
         (openOf (memoryLent log index current (now (entries .entry)) (now (areas .entry)))) ⌝ }
 {
     let n = entries::count(entries);
     let r = numbered::open(log, index, current, n, areas.len());
-    entries::clear(entries, r.clears);
+    entries::clear(entries, 0, r.clears);
     numbered::answer::begun_change(r)
 }
 
@@ -96,8 +97,8 @@ pub extern "C" fn yk_insert(
     article: u32,
     count: u32,
 ) -> YkChange
-    ensures { λ r. ⌜ AppendCrossed 1 r (asLent s log index current entries areas) (asLeft log index current entries areas)
-        (insertOf (asLent s log index current entries areas) t article count) ⌝ }
+    ensures { λ r. ⌜ AppendCrossed 1 r (asLent s log index current entries areas) (insertQuestions (asLent s log index current entries areas) t article)
+        (asLeft log index current entries areas) (insertOf (asLent s log index current entries areas) t article count) ⌝ }
 {
     numbered::insert(
         s,
@@ -123,8 +124,8 @@ pub extern "C" fn yk_delete(
     t: u64,
     article: u32,
 ) -> YkChange
-    ensures { λ r. ⌜ AppendCrossed 1 r (asLent s log index current entries areas) (asLeft log index current entries areas)
-        (deleteOf (asLent s log index current entries areas) t article) ⌝ }
+    ensures { λ r. ⌜ AppendCrossed 1 r (asLent s log index current entries areas) (presentQuestions (asLent s log index current entries areas) t article 1)
+        (asLeft log index current entries areas) (deleteOf (asLent s log index current entries areas) t article) ⌝ }
 {
     numbered::delete(
         s,
@@ -150,8 +151,8 @@ pub extern "C" fn yk_update(
     article: u32,
     count: u32,
 ) -> YkChange
-    ensures { λ r. ⌜ AppendCrossed 2 r (asLent s log index current entries areas) (asLeft log index current entries areas)
-        (updateOf (asLent s log index current entries areas) t article count) ⌝ }
+    ensures { λ r. ⌜ AppendCrossed 2 r (asLent s log index current entries areas) (presentQuestions (asLent s log index current entries areas) t article 2)
+        (asLeft log index current entries areas) (updateOf (asLent s log index current entries areas) t article count) ⌝ }
 {
     numbered::update(
         s,
@@ -201,7 +202,7 @@ pub extern "C" fn yk_table<'a>(
         log,
         index,
         current,
-        entries::load(entries),
+        entries::nearest(entries, s, t),
         areas,
         t,
         out,
@@ -220,7 +221,15 @@ pub extern "C" fn yk_view(
 ) -> YkView
     ensures { λ r. ⌜ ViewCrossed r (asLent s log index current entries areas) t ⌝ }
 {
-    numbered::view(s, log, index, current, entries::load(entries), areas, t)
+    numbered::view(
+        s,
+        log,
+        index,
+        current,
+        entries::nearest(entries, s, t),
+        areas,
+        t,
+    )
 }
 
 #[no_mangle]
@@ -244,7 +253,8 @@ pub extern "C" fn yk_net_change<'a>(
         log,
         index,
         current,
-        entries::load(entries),
+        entries::nearest(entries, s, a),
+        entries::nearest(entries, s, b),
         areas,
         a,
         b,
@@ -265,7 +275,15 @@ pub extern "C" fn yk_units<'a>(
 ) -> YkUnits
     ensures { λ r. ⌜ UnitsCrossed r (asLent s log index current entries areas) t ⌝ }
 {
-    numbered::units(s, log, index, current, entries::load(entries), areas, t)
+    numbered::units(
+        s,
+        log,
+        index,
+        current,
+        entries::nearest(entries, s, t),
+        areas,
+        t,
+    )
 }
 
 #[no_mangle]
@@ -281,7 +299,17 @@ pub extern "C" fn yk_units_between<'a>(
 ) -> YkDifference
     ensures { λ r. ⌜ DifferenceCrossed r (asLent s log index current entries areas) a b ⌝ }
 {
-    numbered::units_between(s, log, index, current, entries::load(entries), areas, a, b)
+    numbered::units_between(
+        s,
+        log,
+        index,
+        current,
+        entries::nearest(entries, s, a),
+        entries::nearest(entries, s, b),
+        areas,
+        a,
+        b,
+    )
 }
 
 #[no_mangle]
@@ -295,13 +323,13 @@ pub extern "C" fn yk_keep(
     t: u64,
     mark: u32,
 ) -> YkChange
-    ensures { λ r. ⌜ FilesCrossed (s .files + 1) r (asLent s log index current entries areas) (asLeft log index current entries areas)
-        (keepOf (asLent s log index current entries areas) t mark) ⌝ }
+    ensures { λ r. ⌜ KeepCrossed r (asLent s log index current entries areas) t mark (asLeft log index current entries areas) ⌝ }
 {
-    let c = entries::load(entries);
-    let r = numbered::keep(s, log, index, current, c, areas, t, mark);
-    entries::save(entries, r.catalogue);
-    numbered::answer::refiled_change(r)
+    let c = entries::nearest(entries, s, t);
+    let at = entries::place(entries, s, t);
+    let r = numbered::keep(s, log, index, current, c, at, areas, t, mark);
+    entries::insert(entries, r.at, r.end, r.entry);
+    numbered::answer::kept_change(r)
 }
 
 #[no_mangle]
@@ -314,13 +342,12 @@ pub extern "C" fn yk_drop(
     areas: &mut [u8],
     t: u64,
 ) -> YkChange
-    ensures { λ r. ⌜ FilesCrossed (s .files) r (asLent s log index current entries areas) (asLeft log index current entries areas)
-        (dropOf (asLent s log index current entries areas) t) ⌝ }
+    ensures { λ r. ⌜ ExactlyCrossed r (asLeft log index current entries areas) (dropOf (asLent s log index current entries areas) t) ⌝ }
 {
-    let c = entries::load(entries);
-    let r = numbered::drop(s, log, index, current, c, areas, t);
-    entries::save(entries, r.catalogue);
-    numbered::answer::refiled_change(r)
+    let x = entries::staying(entries, s, catalogue::of_time(t));
+    let r = numbered::drop(s, log, index, current, x, areas, t);
+    entries::remove(entries, r.over, x);
+    numbered::answer::dropped_change(r)
 }
 
 #[no_mangle]
@@ -333,12 +360,11 @@ pub extern "C" fn yk_drop_marked(
     areas: &mut [u8],
     mark: u32,
 ) -> YkDropMarked
-    ensures { λ r. ⌜ DropMarkedCrossed (s .files) r (asLent s log index current entries areas) (asLeft log index current entries areas)
-        (dropMarkedOf (asLent s log index current entries areas) mark) ⌝ }
+    ensures { λ r. ⌜ DropMarkedCrossed r (asLeft log index current entries areas) (dropMarkedOf (asLent s log index current entries areas) mark) ⌝ }
 {
-    let c = entries::load(entries);
-    let r = numbered::drop_marked(s, log, index, current, c, areas, mark);
-    entries::save(entries, r.catalogue);
+    let x = entries::staying(entries, s, catalogue::of_mark(mark));
+    let r = numbered::drop_marked(s, log, index, current, x, areas, mark);
+    entries::remove(entries, r.over, x);
     numbered::answer::cleared_answer(r)
 }
 

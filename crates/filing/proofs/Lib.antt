@@ -1,4 +1,5 @@
 pub mod FileEntries
-pub mod Keeping
 pub mod Letting
-pub mod Calls
+pub mod Keeping
+pub mod Keeps
+pub mod Drops

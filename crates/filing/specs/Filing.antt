@@ -1,48 +1,57 @@
--- What keep, drop and drop by mark promise (`FilesPromise` of model/specs/Promises) of every catalogue that is lent. Assumes
--- nothing.
-use Prim.Native.Nat.{ℕ, _+_, _≤_}
+-- What keep, drop and drop by mark do, of every catalogue of which what they are given is true. Assumes nothing.
+use Prim.Native.Nat.{ℕ, _≤_}
 use mathlib.Core.Path.{_≡_}
 use mathlib.Core.List.{List}
-use mathlib.Core.Bool.{Bool}
-use lib.ListN.{length}
+use lib.ListN.{length, take}
 use Rattle.model.specs.declared.Numbers.{Numbers}
 use Rattle.model.specs.declared.Entry.{Entry}
-use Rattle.model.specs.Answers.{Outcome}
-use Rattle.model.specs.Memory.{State, state}
-use Rattle.model.specs.Starts.{Result}
-use Rattle.model.specs.Files.{filesOf, withFiles, withCount, fileIn, fileAt, reduced}
+use Rattle.model.specs.Answers.{Outcome, verdictOutcome}
+use Rattle.model.specs.Memory.{State}
+use Rattle.model.specs.Starts.{Result, after}
+use Rattle.model.specs.Files.{withFile, fileAt, reduced}
 use Rattle.model.specs.Audit.{Audited}
-use Rattle.model.specs.Promises.{storeOf, FilesFrame, FilesPromise}
-use Rattle.catalogue.specs.declared.Catalogue.{Catalogue}
-use Rattle.catalogue.specs.declared.Left.{Left}
-use Rattle.catalogue.specs.Files.{byValue, writtenBack}
-
--- a call that may write the first `files` entries and areas, answered o and left these numbers, catalogue and areas, keeps its
--- promise, `defined` being its definition
-abbrev pub Files : {A : Type 0} → ℕ → Numbers → (log index table : List ℕ) → Catalogue → (areas : List ℕ)
-    → Outcome A → Numbers → Catalogue → (areas' : List ℕ) → (State → Result A) → Type 0
-Files files s log index table c areas o s' c' areas' defined =
-    (catalogue : List Entry) → c ≡ byValue catalogue
-    → FilesPromise files (storeOf s log index table catalogue areas) o (storeOf s' log index table (writtenBack catalogue c') areas')
-    (defined (storeOf s log index table catalogue areas))
+use Rattle.model.specs.Promises.{storeOf, FileKept, KeepPromise}
+use Rattle.catalogue.specs.declared.Candidates.{Candidates}
+use Rattle.catalogue.specs.declared.Going.{Going}
+use Rattle.catalogue.specs.declared.Staying.{Staying}
+use Rattle.catalogue.specs.Candidates.{usedIn, candidatesIn}
+use Rattle.catalogue.specs.Entries.{placeFor, entryShifted, staysWhen, stayingOf, entriesClosed}
+use Rattle.filing.specs.declared.Kept.{Kept}
 
 -- ---- keep
 
--- the store with the file of time t and mark k, where the audit passes it
-abbrev pub kept : State → ℕ → ℕ → State
-kept st t k =
-    state (withCount (st .numbers) (st .numbers .files + 1)) (withFiles (fileIn (fileAt st t k) (filesOf st)) (st .memory))
+-- the catalogue as the kept file leaves it
+abbrev pub entriesKept : Kept → List Entry → List Entry
+entriesKept r catalogue = entryShifted catalogue (r .at) (r .end) (r .entry)
 
--- one file more and no byte past it, and on audited memory that store
-pub record Keeping (st : State) (t k : ℕ) (st' : State) : Type 0 where
-  pub framed : FilesFrame (st .numbers .files + 1) st st'
-  pub audited : (Audited st → st' ≡ kept st t k)
+-- a keep that answered r keeps its promise, and the entry's places are there
+pub record Keeps (s : Numbers) (log index table : List ℕ) (c : Candidates) (at : ℕ) (areas : List ℕ) (t k : ℕ) (r : Kept) (areas' : List ℕ) : Type 0 where
+  pub low : r .at ≤ r .end
+  pub high : r .end ≤ c .lent
+  pub promised : (catalogue : List Entry) → c ≡ candidatesIn s t catalogue → at ≡ placeFor t (usedIn s catalogue)
+      → KeepPromise (storeOf s log index table catalogue areas) t k (verdictOutcome (r .verdict)) (storeOf (r .numbers) log index table (entriesKept r catalogue) areas')
+
+-- one file of time t and mark k more, of so many rows, and on audited memory its table
+pub record KeptFile (st : State) (t k : ℕ) (st' : State) : Type 0 where
+  pub some : FileKept st t k st'
+  pub audited : (Audited st → st' ≡ withFile (fileAt st t k) st)
 
 -- ---- drop
 
--- entries and areas of the files that a test lets stay, and how many these are: the store is then `reduced`, on any memory and
+-- entries and areas of the files that stay, and the numbers with their count: the store is then `reduced`, on any memory and
 -- whatever the regions that are not lent hold
-pub record LetGo (stays : Entry → Bool) (s : Numbers) (c : Catalogue) (areas : List ℕ) (left : Left) (areas' : List ℕ) : Type 0 where
-  pub few : left .files ≤ s .files
-  pub is : (log index table : List ℕ) (catalogue : List Entry) → c ≡ byValue catalogue → s .files ≤ length catalogue
-      → storeOf (withCount s (left .files)) log index table (writtenBack catalogue (left .catalogue)) areas' ≡ reduced stays (storeOf s log index table catalogue areas)
+pub record LetGo (s : Numbers) (x : Staying) (areas : List ℕ) (s' : Numbers) (areas' : List ℕ) : Type 0 where
+  pub is : (going : Going) (log index table : List ℕ) (catalogue : List Entry) → x ≡ stayingOf going (take (s .files) catalogue) (length catalogue)
+      → s .files ≤ length catalogue
+      → storeOf s' log index table (entriesClosed (staysWhen going) (s .files) catalogue) areas'
+      ≡ reduced (staysWhen going) (storeOf s log index table catalogue areas)
+
+-- a drop of the files that go, of which x says which stay, answered o and left these numbers and areas; `over` entries are closed
+-- up. It is `defined` on any memory
+pub record Drops {A : Type 0} (going : Going) (s : Numbers) (log index table : List ℕ) (x : Staying) (areas : List ℕ)
+    (o : Outcome A) (s' : Numbers) (over : ℕ) (areas' : List ℕ) (defined : State → Result A) : Type 0 where
+  pub few : over ≤ 16
+  pub lent : over ≤ x .lent
+  pub told : over ≤ s .files
+  pub is : (catalogue : List Entry) → x ≡ stayingOf going (usedIn s catalogue) (length catalogue)
+      → after o (storeOf s' log index table (entriesClosed (staysWhen going) over catalogue) areas') ≡ defined (storeOf s log index table catalogue areas)

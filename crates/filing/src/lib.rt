@@ -1,5 +1,6 @@
-// Keep and drop a count file (01, "Count files", "The questions, in order"), and drop by mark (02, wish 3). The catalogue comes
-// and goes by value; the areas are written where they lie. A refused call gives numbers and catalogue back as they were.
+// Keep and drop a count file (01, "Count files", "The questions, in order"), and drop by mark (02, wish 3). What they need to know
+// of the catalogue comes by value, and they answer what is to be done to its entries; the areas are written where they lie. A
+// refused call gives the numbers back as they were, and nothing is to be done.
 ghost use mathlib.Core.Path.{_≡_};
 ghost use mathlib.Core.List.{List};
 ghost use Prim.Native.Nat.{ℕ, _+_, _*_, _≤_, _<_};
@@ -7,45 +8,44 @@ ghost use lib.ListN.{length};
 ghost use Rattle.model.specs.declared.Entry.{Entry};
 ghost use Rattle.model.specs.declared.Verdict.the-variants as verdict;
 ghost use Rattle.model.specs.Answers.{verdictOutcome, dropMarkedOutcome};
-ghost use Rattle.model.specs.Files.{withCount, keepOf, dropOf, dropMarkedOf};
+ghost use Rattle.model.specs.Files.{withCount, fileOf, dropOf, dropMarkedOf};
+ghost use Rattle.model.specs.Memory.{noEntry};
 ghost use Rattle.model.specs.Promises.{storeOf};
 ghost use Rattle.tree.specs.Places.{Seen, stretchLent};
-ghost use Rattle.catalogue.specs.Entries.{staysWhen};
-ghost use Rattle.catalogue.specs.Files.{byValue, writtenBack};
+ghost use Rattle.catalogue.specs.declared.Going.the-variants.{Of, Marked};
+ghost use Rattle.catalogue.specs.Candidates.{usedIn, candidatesIn};
+ghost use Rattle.catalogue.specs.Entries.{placeFor, entryPut};
 ghost use Rattle.tables.specs.Ways.{Ready};
-ghost use Rattle.filing.specs.Filing.{Files, Keeping, LetGo};
-use catalogue::Catalogue;
-use catalogue::Going;
-use catalogue::Left;
+ghost use Rattle.filing.specs.Filing.{Keeps, KeptFile, LetGo, Drops};
+use catalogue::Candidates;
+use catalogue::Staying;
 use model::DropMarkedAnswer;
 use model::Entry;
 use model::Numbers;
 use model::Refusal;
 use model::Verdict;
 
-// The numbers and the catalogue then, and whether the call was accepted.
-pub struct Filed {
+// The numbers then, whether the call was accepted, and the entry that goes to place `at`, those from there up to `end` going up.
+pub struct Kept {
     pub numbers: Numbers,
     pub verdict: Verdict,
-    pub catalogue: Catalogue,
+    pub entry: Entry,
+    pub at: usize,
+    pub end: usize,
+}
+
+// The numbers then, whether the call was accepted, and over how many entries those that stay are closed up.
+pub struct Dropped {
+    pub numbers: Numbers,
+    pub verdict: Verdict,
+    pub over: usize,
 }
 
 // The same of a drop by mark, with how many files went.
 pub struct Cleared {
     pub numbers: Numbers,
     pub answer: DropMarkedAnswer,
-    pub catalogue: Catalogue,
-}
-
-// Refused: numbers and catalogue as they were.
-fn refused(s: Numbers, c: Catalogue, why: Refusal) -> Filed
-    ensures { λ r. ⌜ r ≡ record { numbers = s; verdict = verdict.Refused why; catalogue = c } ⌝ }
-{
-    Filed {
-        numbers: s,
-        verdict: Verdict::Refused(why),
-        catalogue: c,
-    }
+    pub over: usize,
 }
 
 // The numbers with another count of files.
@@ -65,8 +65,21 @@ fn counted(s: Numbers, files: u32) -> Numbers
 
 // ---- keep
 
-// The file of time t with this mark, which no question forbids. Its table is worked out first: the outset may lie in an area
-// that is about to move.
+// Refused: no place is an entry's.
+fn not_kept(s: Numbers, why: Refusal) -> Kept
+    ensures { λ r. ⌜ r ≡ record { numbers = s; verdict = verdict.Refused why; entry = noEntry; at = 0; end = 0 } ⌝ }
+{
+    Kept {
+        numbers: s,
+        verdict: Verdict::Refused(why),
+        entry: catalogue::no_entry(),
+        at: 0,
+        end: 0,
+    }
+}
+
+// The file of time t with this mark, which no question forbids, to place `at`: its area, and the rows that are answered. Its
+// table is worked out first: the outset may lie in an area that is about to move.
 fn keep_file(
     s: Numbers,
     log: &[u8],
@@ -75,20 +88,20 @@ fn keep_file(
     starts: &[u64],
     words: usize,
     current: &[u8],
-    c: Catalogue,
+    c: Candidates,
+    at: usize,
     areas: &mut [u8],
     t: u64,
-    mark: u32,
-) -> Catalogue
+) -> u32
     requires { ⌜ Ready s (length (now log)) words t (8 * s .limit) ⌝ }
     requires { ⌜ Seen (s .order) extent (now starts) words (length (now index)) ⌝ }
-    requires { ⌜ s .files < 16 ⌝ }
+    requires { ⌜ (s .files < 16) × (at ≤ s .files) ⌝ }
     requires { ⌜ 8 * s .limit * (s .files + 1) ≤ length (now areas) ⌝ }
-    ensures { λ r. ⌜ ((catalogue : List Entry) → c ≡ byValue catalogue → s .files < length catalogue
-        → Keeping (storeOf s (now (log .entry)) (stretchLent (s .order) extent starts words index) (now (current .entry)) catalogue (now (areas .entry))) t mark
-        (storeOf (withCount s (s .files + 1)) (now (log .entry)) (stretchLent (s .order) extent starts words index) (now (current .entry)) (writtenBack catalogue r) (now (areas .exit)))) ⌝ }
+    ensures { λ r. ⌜ ((catalogue : List Entry) (mark : ℕ) → c ≡ candidatesIn s t catalogue → at ≡ placeFor t (usedIn s catalogue) → s .files < length catalogue
+        → KeptFile (storeOf s (now (log .entry)) (stretchLent (s .order) extent starts words index) (now (current .entry)) catalogue (now (areas .entry))) t mark
+        (storeOf (withCount s (s .files + 1)) (now (log .entry)) (stretchLent (s .order) extent starts words index) (now (current .entry))
+        (entryPut catalogue (s .files) at (fileOf t r mark (now (areas .exit)) .entry)) (now (areas .exit)))) ⌝ }
 {
-    let files = s.files as usize;
     let size = 8 * (s.limit as usize);
     let mut scratch = [0u8; 8192];
     let w = tables::work_out(
@@ -104,21 +117,11 @@ fn keep_file(
         t,
         &mut scratch[0..size],
     );
-    let at = catalogue::place(c, files, t);
-    areas::put_area(areas, s.limit, files, at, &scratch[0..size]);
-    catalogue::inserted(
-        c,
-        files,
-        at,
-        Entry {
-            time: t,
-            rows: w.rows,
-            mark,
-        },
-    )
+    areas::put_area(areas, s.limit, s.files as usize, at, &scratch[0..size]);
+    w.rows
 }
 
-// Keeps the table of t as a count file with a mark.
+// Keeps the table of t as a count file with a mark; c are the candidates for t, and `at` is the place where a file of t goes.
 pub fn keep(
     s: Numbers,
     log: &[u8],
@@ -127,35 +130,38 @@ pub fn keep(
     starts: &[u64],
     words: usize,
     current: &[u8],
-    c: Catalogue,
+    c: Candidates,
+    at: usize,
     areas: &mut [u8],
     t: u64,
     mark: u32,
-) -> Filed
+) -> Kept
     requires { ⌜ Seen (s .order) extent (now starts) words (length (now index)) ⌝ }
-    ensures { λ r. ⌜ Files (s .files + 1) s (now (log .entry)) (stretchLent (s .order) extent starts words index) (now (current .entry)) c (now (areas .entry))
-        (verdictOutcome (r .verdict)) (r .numbers) (r .catalogue) (now (areas .exit)) (λ st. keepOf st t mark) ⌝ }
+    requires { ⌜ at ≤ s .files ⌝ }
+    ensures { λ r. ⌜ Keeps s (now (log .entry)) (stretchLent (s .order) extent starts words index) (now (current .entry)) c at (now (areas .entry)) t mark
+        r (now (areas .exit)) ⌝ }
 {
     if limits::is_sound(s, log, words, current.len(), c.lent, areas.len()) {} else {
-        return refused(s, c, Refusal::Header);
+        return not_kept(s, Refusal::Header);
     }
     if s.last < t {
-        return refused(s, c, Refusal::TimeAfterLast);
+        return not_kept(s, Refusal::TimeAfterLast);
     }
     if catalogue::is_mark(mark) {} else {
-        return refused(s, c, Refusal::WrongMark);
+        return not_kept(s, Refusal::WrongMark);
     }
     if t == 0 {
-        return refused(s, c, Refusal::NotToKeep);
+        return not_kept(s, Refusal::NotToKeep);
+    }
+    // kept already: the nearest count file at or before t is of t itself
+    if c.early.time == t {
+        return not_kept(s, Refusal::NotToKeep);
     }
     let files = s.files as usize;
-    if catalogue::is_kept(c, files, t) {
-        return refused(s, c, Refusal::NotToKeep);
-    }
     if files < catalogue::capacity(s.limit, c.lent, areas.len()) {} else {
-        return refused(s, c, Refusal::CatalogueFull);
+        return not_kept(s, Refusal::CatalogueFull);
     }
-    let with_it = keep_file(
+    let rows = keep_file(
         s,
         log,
         index,
@@ -164,93 +170,102 @@ pub fn keep(
         words,
         current,
         c,
+        at,
         areas,
         t,
-        mark,
     );
-    Filed {
+    Kept {
         numbers: counted(s, s.files + 1),
         verdict: Verdict::Accepted,
-        catalogue: with_it,
+        entry: Entry {
+            time: t,
+            rows,
+            mark,
+        },
+        at,
+        end: files + 1,
     }
 }
 
 // ---- drop
 
-// The files that go are let go: entries and areas are closed up over them, and zero where they are set free.
-fn let_go(s: Numbers, c: Catalogue, areas: &mut [u8], going: Going) -> Left
+// The areas of the files that stay are closed up, and zero where they are set free. Answers the numbers then.
+fn let_go(s: Numbers, x: Staying, areas: &mut [u8]) -> Numbers
     requires { ⌜ (s .limit ≤ 1024) × (s .files ≤ 16) ⌝ }
     requires { ⌜ 8 * s .limit * s .files ≤ length (now areas) ⌝ }
-    ensures { λ r. ⌜ LetGo (staysWhen going) s c (now (areas .entry)) r (now (areas .exit)) ⌝ }
+    ensures { λ r. ⌜ LetGo s x (now (areas .entry)) r (now (areas .exit)) ⌝ }
 {
-    let files = s.files as usize;
-    areas::close_areas(areas, s.limit, c, files, going);
-    catalogue::closed_up(c, files, going)
+    areas::close_areas(areas, s.limit, s.files as usize, x);
+    counted(s, x.count)
 }
 
-// Drops the count file of time t. It looks at no node: of the index it is told how many words it has.
+// Drops the count file of time t; x says which files stay. It looks at no node: of the index it is told how many words it has.
 pub fn drop(
     s: Numbers,
     log: &[u8],
     words: usize,
     current: &[u8],
-    c: Catalogue,
+    x: Staying,
     areas: &mut [u8],
     t: u64,
-) -> Filed
-    ensures { λ r. ⌜ ((index : List ℕ) → length index ≡ words → Files (s .files) s (now (log .entry)) index (now (current .entry)) c (now (areas .entry))
-        (verdictOutcome (r .verdict)) (r .numbers) (r .catalogue) (now (areas .exit)) (λ st. dropOf st t)) ⌝ }
+) -> Dropped
+    ensures { λ r. ⌜ ((index : List ℕ) → length index ≡ words → Drops (Of t) s (now (log .entry)) index (now (current .entry)) x (now (areas .entry))
+        (verdictOutcome (r .verdict)) (r .numbers) (r .over) (now (areas .exit)) (λ st. dropOf st t)) ⌝ }
 {
-    if limits::is_sound(s, log, words, current.len(), c.lent, areas.len()) {} else {
-        return refused(s, c, Refusal::Header);
+    if limits::is_sound(s, log, words, current.len(), x.lent, areas.len()) {} else {
+        return Dropped {
+            numbers: s,
+            verdict: Verdict::Refused(Refusal::Header),
+            over: 0,
+        };
     }
-    let files = s.files as usize;
-    if catalogue::is_kept(c, files, t) {} else {
-        return refused(s, c, Refusal::NotKept);
+    if x.count < s.files {} else {
+        return Dropped {
+            numbers: s,
+            verdict: Verdict::Refused(Refusal::NotKept),
+            over: 0,
+        };
     }
-    let left = let_go(s, c, areas, Going::Of(t));
-    let closed = left.catalogue;
-    Filed {
-        numbers: counted(s, left.files as u32),
+    Dropped {
+        numbers: let_go(s, x, areas),
         verdict: Verdict::Accepted,
-        catalogue: closed,
+        over: s.files as usize,
     }
 }
 
-// Drops the count files of a mark.
+// Drops the count files of a mark; x says which files stay.
 pub fn drop_marked(
     s: Numbers,
     log: &[u8],
     words: usize,
     current: &[u8],
-    c: Catalogue,
+    x: Staying,
     areas: &mut [u8],
     mark: u32,
 ) -> Cleared
-    ensures { λ r. ⌜ ((index : List ℕ) → length index ≡ words → Files (s .files) s (now (log .entry)) index (now (current .entry)) c (now (areas .entry))
-        (dropMarkedOutcome (r .answer)) (r .numbers) (r .catalogue) (now (areas .exit)) (λ st. dropMarkedOf st mark)) ⌝ }
+    requires { ⌜ x .count ≤ s .files ⌝ }
+    ensures { λ r. ⌜ ((index : List ℕ) → length index ≡ words → Drops (Marked mark) s (now (log .entry)) index (now (current .entry)) x (now (areas .entry))
+        (dropMarkedOutcome (r .answer)) (r .numbers) (r .over) (now (areas .exit)) (λ st. dropMarkedOf st mark)) ⌝ }
 {
-    if limits::is_sound(s, log, words, current.len(), c.lent, areas.len()) {} else {
+    if limits::is_sound(s, log, words, current.len(), x.lent, areas.len()) {} else {
         return Cleared {
             numbers: s,
             answer: DropMarkedAnswer::Refused(Refusal::Header),
-            catalogue: c,
+            over: 0,
         };
     }
     if catalogue::goes(mark) {} else {
         return Cleared {
             numbers: s,
             answer: DropMarkedAnswer::Refused(Refusal::WrongMark),
-            catalogue: c,
+            over: 0,
         };
     }
-    let left = let_go(s, c, areas, Going::Marked(mark));
-    let stay = left.files as u32;
+    let stay = x.count;
     let gone = s.files - stay;
-    let closed = left.catalogue;
     Cleared {
-        numbers: counted(s, stay),
+        numbers: let_go(s, x, areas),
         answer: DropMarkedAnswer::Gone(gone),
-        catalogue: closed,
+        over: s.files as usize,
     }
 }

@@ -5,6 +5,7 @@ ghost use Prim.Native.Nat.{_≤_};
 ghost use Rattle.model.specs.Settings.{SettingsFit};
 ghost use Rattle.lending.specs.Lengths.{lengthsFor, lengthsOf, lengthsOutcome};
 use model::Checked;
+use model::Numbers;
 use model::Refusal;
 use model::Settings;
 
@@ -57,10 +58,10 @@ pub fn lengths_for(order: u16, page: u16, limit: u32, records: u32, files: u32) 
 {
     match Settings::checked(order, page, limit) {
         Checked::InRange(s) => {
-            if Settings::RECORDS_MAX < records {
+            if Numbers::RECORDS_MAX < records {
                 return LengthsAnswer::Refused(Refusal::Memory);
             }
-            if Settings::FILES_MAX < files as usize {
+            if Numbers::FILES_MAX < files as usize {
                 return LengthsAnswer::Refused(Refusal::CatalogueFull);
             }
             LengthsAnswer::Lend(lengths_in_range(s, records, files))

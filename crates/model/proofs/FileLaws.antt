@@ -14,7 +14,7 @@ use Rattle.model.specs.declared.Entry.{Entry}
 use Rattle.model.specs.declared.Numbers.{Numbers}
 use Rattle.model.specs.Memory.{State, state}
 use Rattle.model.specs.Files.{File, filesIn, filesOf, noFile, areasBytes, entryOf, staying, closedUp, withFiles}
-use Rattle.model.specs.Promises.{Beyond, FilesFrame}
+use Rattle.model.specs.Promises.{Beyond}
 
 -- ---- entries and areas of files one behind the other
 
@@ -157,14 +157,3 @@ whole-closed-up R files fs h = whole-append R fs (replicate (files - length fs) 
 pub front-beyond : {A : Type 0} (k : ℕ) (xs ys : List A) → k ≤ length xs → length ys ≡ k → Beyond k xs (put xs 0 ys)
 front-beyond k xs ys h e =
     record { same-length = length-put xs 0 ys (rw e (omega arith)); same-rest = drop-put k xs 0 ys (rw e (omega arith)) (omega arith) }
-
-pub files-frame : (st : State) (s' : Numbers) (k : ℕ) (gs : List File) → length gs ≡ k → Whole (st .numbers .limit) gs → k ≤ length (st .memory .catalogue)
-    → 8 * st .numbers .limit * k ≤ length (st .memory .areas) → FilesFrame k st (state s' (withFiles gs (st .memory)))
-files-frame st s' k gs n whole few long =
-    record {
-      log-same = refl;
-      index-same = refl;
-      table-same = refl;
-      entries-framed = front-beyond k (st .memory .catalogue) (map entryOf gs) few (length-map gs entryOf ∙ n);
-      areas-framed = front-beyond (8 * st .numbers .limit * k) (st .memory .areas) (areasBytes gs) long (length-whole (st .numbers .limit) gs whole ∙ rw n);
-    }

@@ -1,25 +1,26 @@
 -- "Only a keep can meet 12 from here on" (02, wish 2): no other call asks it, so none is refused by it; and a keep for a time after
 -- the last is. Assumes nothing.
 use Prim.Native.Nat.{ℕ, _<_}
-use mathlib.Core.Path.{_≡_, refl, sym, _∙_}
+use mathlib.Core.Path.{_≡_, refl, sym, ap, _∙_}
 use mathlib.Core.List.{List, [], _∷_, _++_, map}
 use mathlib.Core.Bool.{Bool, true, false, cond, false≢true}
 use lib.ListN.{replicate}
 use lib.IntN.{ℤ}
 use lib.Dec.{eqb}
-use borrow.Author.Tests.{lt-leb}
+use borrow.Author.Tests.{lt-leb, eqb-true}
 use Rattle.model.specs.declared.Position.{Position}
-use Rattle.model.specs.Answers.{Outcome, refuses, Question, firstNo, TableSaid}
+use Rattle.model.specs.Answers.{Outcome, answers, refuses, refusesAt, Question, asks, firstNo, TableSaid}
 use Rattle.model.specs.Memory.{State, sound, standing}
 use Rattle.model.specs.Starts.{Result, After, after, freshQuestions, freshOf, openQuestions, wellWritten, openOf, notStarted}
 use Rattle.model.specs.Changes.{unchanged, insertQuestions, presentQuestions, insertOf, deleteOf, updateOf}
 use Rattle.model.specs.Queries.{positionOf, Written, tableQuestions, tableOf, Viewed, viewOf, Netted, netQuestions, netOf}
 use Rattle.model.specs.Files.{keepOf, dropQuestions, dropOf, dropMarkedQuestions, dropMarkedOf}
 use Rattle.model.specs.Units.{unitsOf, differenceOf}
-use Rattle.model.specs.Promises.{refusedBy}
+use Rattle.model.specs.Promises.{refusedBy, refusedNumber, FirstNoRefuses, byOneOf}
+use Rattle.model.specs.Chains.{Carried}
 use Rattle.model.specs.Calls.{Start, fresh, opening, begun, Call, answerOf}
-use Rattle.model.specs.LateTimes.{asks, TimeAskedByKeep, saidRefusedBy, IsKeep, keeps, OnlyKeepMeets12}
-use Rattle.model.proofs.PromiseLaws.{unless}
+use Rattle.model.specs.LateTimes.{TimeAskedByKeep, saidRefusedBy, IsKeep, keeps, OnlyKeepMeets12, OnlyKeepRefusedBy12}
+use Rattle.model.proofs.PromiseLaws.{not-first, unless}
 use Rattle.model.proofs.LateComputed.{computing, two, filed}
 
 -- ---- computed
@@ -41,16 +42,8 @@ pub time-asked-by-keep : (st : State) → TimeAskedByKeep st
 unfolding asks
 time-asked-by-keep st = record { standing-without = refl; table-without = λ out. refl; net-change-without = λ out work. refl; keep-with = λ t k. refl }
 
--- questions that 12 is not among refuse by another number
 not-by-12 : (qs : List Question) → asks 12 qs ≡ false → eqb (firstNo qs) 12 ≡ false
-unfolding asks firstNo
-not-by-12 [] e = refl
-not-by-12 (q ∷ qs) e = by (q .yes) (eqb (q .number) 12) refl (not-by-12 qs)
-  where
-    by : (a b : Bool) → eqb (q .number) 12 ≡ b → (asks 12 qs ≡ false → eqb (firstNo qs) 12 ≡ false) → eqb (cond a (firstNo qs) (q .number)) 12 ≡ false
-    by true false h ih = ih (rw h at e)
-    by false false h ih = h
-    by a true h ih = absurd (false≢true (sym (rw h at e)))
+not-by-12 = not-first 12 refl
 
 -- ---- the calls
 
@@ -106,3 +99,41 @@ module _ (st : State) where
 
 pub only-keep-meets-12 : OnlyKeepMeets12
 only-keep-meets-12 = record { no-start = no-start; keep-alone = keep-alone; keep-refused = keep-refused }
+
+-- ---- calls that are made
+
+-- refused by a question of these, or by the first of them answered no, is not refused by one that is not among them
+not-by-own : {A : Type 0} (qs : List Question) (o : Outcome A) → asks 12 qs ≡ false → byOneOf qs o ≡ true → refusedBy 12 o ≡ false
+unfolding byOneOf refusedBy
+not-by-own qs (answers x) e h = refl
+not-by-own qs (refuses k) e h = by (eqb k 12) refl
+  where
+    by : (b : Bool) → eqb k 12 ≡ b → b ≡ false
+    by true q = absurd (false≢true (sym e ∙ (rw (eqb-true k 12 q) at h)))
+    by false q = refl
+not-by-own qs (refusesAt k r) e h = absurd (false≢true h)
+
+not-by-first : {A : Type 0} (qs : List Question) (o : Outcome A) → asks 12 qs ≡ false → FirstNoRefuses qs o → refusedBy 12 o ≡ false
+unfolding refusedNumber refusedBy
+not-by-first qs (answers x) e h = refl
+not-by-first qs (refuses k) e h = rw h (not-by-12 qs e)
+not-by-first qs (refusesAt k r) e h = rw h (not-by-12 qs e)
+
+none-by-12 : {c : Call} {b : Bool} → b ≡ false → b ≡ true → IsKeep c
+none-by-12 e f = absurd (false≢true (sym e ∙ f))
+
+pub only-keep-refused-by-12 : OnlyKeepRefusedBy12 Carried
+unfolding saidRefusedBy asks answerOf
+only-keep-refused-by-12 st c said st' (Carried.insert t a n p) = none-by-12 (not-by-own (insertQuestions st t a) _ refl (p .asked .own))
+only-keep-refused-by-12 st c said st' (Carried.delete t a p) = none-by-12 (not-by-own (presentQuestions st t a 1) _ refl (p .asked .own))
+only-keep-refused-by-12 st c said st' (Carried.update t a n p) = none-by-12 (not-by-own (presentQuestions st t a 2) _ refl (p .asked .own))
+only-keep-refused-by-12 st c said st' (Carried.position t p) = none-by-12 (not-by-first (standing st) _ refl (p .asked))
+only-keep-refused-by-12 st c said st' (Carried.table t out p) = none-by-12 (not-by-first (tableQuestions st out) _ refl (p .asked))
+only-keep-refused-by-12 st c said st' (Carried.view t p) = none-by-12 (not-by-first (standing st) _ refl (p .asked))
+only-keep-refused-by-12 st c said st' (Carried.netChange a b out work p) = none-by-12 (not-by-first (netQuestions st out work) _ refl (p .asked))
+only-keep-refused-by-12 st c said st' (Carried.units t p) = none-by-12 (not-by-first (standing st) _ refl (p .asked))
+only-keep-refused-by-12 st c said st' (Carried.difference a b p) = none-by-12 (not-by-first (standing st) _ refl (p .asked))
+only-keep-refused-by-12 st c said st' (Carried.keep t k p) = λ e. keeps t k
+only-keep-refused-by-12 st c said st' (Carried.drop t e) = λ q. keep-alone st (Call.drop t) (ap (λ (x : After). by12 x) (sym e) ∙ q)
+only-keep-refused-by-12 st c said st' (Carried.dropMarked k e) = λ q. keep-alone st (Call.dropMarked k) (ap (λ (x : Result ℕ). refusedBy 12 (x .outcome)) (sym e) ∙ q)
+only-keep-refused-by-12 st c said st' (Carried.audit e) = λ q. absurd (false≢true q)

@@ -18,10 +18,12 @@ pub mod ChoiceLaws
 pub mod NearestLaws
 pub mod BetweenLaws
 pub mod MoreFileLaws
+pub mod PromiseComputed
 pub mod PromiseLaws
 pub mod Leaving
 pub mod Untouched
 pub mod AppendLaws
+pub mod AppendComputed
 pub mod RecordLaws
 pub mod FirstWrongLaws
 pub mod LateComputed
@@ -39,4 +41,5 @@ pub mod FileLaws
 pub mod FilesBack
 pub mod RemovalLaws
 pub mod RemovalLists
+pub mod HeldFiles
 pub mod HeldTimes

@@ -1,43 +1,54 @@
--- Laws of the form of a promise: what each outcome says of the standing questions, and frames. Assumes nothing.
-use Prim.Native.Nat.{ℕ, zero, suc, _+_, _-_, _*_, _/_, _≤_, _<_}
-use mathlib.Core.Path.{_≡_, refl, sym, ap, _∙_}
-use mathlib.Core.Logic.{_⊎_, inl, inr}
-use mathlib.Core.List.{List}
-use mathlib.Core.Bool.{Bool, true, false, not, cond}
+-- Laws of the form of a promise: what each outcome says of the questions, and frames. Assumes nothing.
+use Prim.Native.Nat.{ℕ, zero, suc, _+_, _-_}
+use mathlib.Core.Path.{_≡_, refl, sym, ap}
+use mathlib.Core.List.{List, [], _∷_, _++_}
+use mathlib.Core.Bool.{Bool, true, false, not, cond, false≢true}
 use native.Mathlib.Omega.{arith}
-use native.Mathlib.Nat.{div-add-mod', mod-lt, div-lt-iff-lt-mul}
-use lib.ListN.{getD}
-use lib.Seq.{getD-drop}
-use lib.Dec.{eqb, ltb}
-use borrow.Author.Tests.{ltb-true, ltb-false}
-use Rattle.model.specs.Answers.{answers, refuses, firstNo, unlessNo}
-use Rattle.model.specs.Numbering.{nodeWord}
-use Rattle.model.specs.Tree.{Outside, NodesFrame}
-use Rattle.model.specs.Memory.{State, sound}
-use Rattle.model.specs.Promises.{refusedBy, refusedAmong, Asked, QueryAsked, Beyond}
+use lib.Dec.{eqb}
+use Rattle.model.specs.Answers.{answers, refuses, Question, question, asks, firstNo, unlessNo}
+use Rattle.model.specs.Memory.{State, sound, standing}
+use Rattle.model.specs.Promises.{refusedBy, refusedNumber, FirstNoRefuses, refusedAmong, byOneOf, AppendAsked, Beyond}
 
--- ---- the standing questions
+-- ---- the questions
 
-pub asked-refused : {A : Type 0} (st : State) (k : ℕ) → eqb k 1 ≡ not (sound st) → eqb k 17 ≡ false → Asked {A = A} st (refuses k)
-unfolding refusedBy refusedAmong firstNo
-asked-refused st k q n = record { standing-first = rw q (by (sound st)); never-17 = n }
+-- an append refused by k, one of its questions
+pub asked-refused : {A : Type 0} (st : State) (questions : List Question) (k : ℕ) → eqb k 1 ≡ not (sound st) → asks k questions ≡ true
+    → AppendAsked {A = A} st questions (refuses k)
+unfolding refusedBy refusedAmong firstNo byOneOf
+asked-refused st questions k q n = record { standing-first = rw q (by (sound st)); own = n }
   where
     by : (b : Bool) → _≡_ {A = ℕ} (cond (not b) 1 0) (cond b 0 1)
     by true = refl
     by false = refl
 
-pub asked-answered : {A : Type 0} (st : State) (x : A) → sound st ≡ true → Asked st (answers x)
-unfolding refusedBy refusedAmong firstNo
-asked-answered st x q = record { standing-first = rw q; never-17 = refl }
+pub asked-answered : {A : Type 0} (st : State) (questions : List Question) (x : A) → sound st ≡ true → AppendAsked st questions (answers x)
+unfolding refusedBy refusedAmong firstNo byOneOf
+asked-answered st questions x q = record { standing-first = rw q; own = refl }
 
--- of a query: 1 and 13 are not 12 either
-pub query-refused : {A : Type 0} (st : State) (k : ℕ) → eqb k 1 ≡ not (sound st) → eqb k 17 ≡ false → eqb k 12 ≡ false → QueryAsked {A = A} st (refuses k)
-unfolding refusedBy
-query-refused st k q n m = record { asked = asked-refused st k q n; never-12 = m }
+-- a query refused by 1, answered, or refused by its own question behind the standing ones
+pub unsound-refused : (A : Type 0) (st : State) (questions : List Question) → sound st ≡ false → FirstNoRefuses {A = A} (standing st ++ questions) (refuses 1)
+unfolding refusedNumber firstNo
+unsound-refused A st questions q = rw q
 
-pub query-answered : {A : Type 0} (st : State) (x : A) → sound st ≡ true → QueryAsked st (answers x)
-unfolding refusedBy
-query-answered st x q = record { asked = asked-answered st x q; never-12 = refl }
+pub next-refused : (A : Type 0) (st : State) (k : ℕ) (b : Bool) (questions : List Question) → sound st ≡ true → b ≡ false
+    → FirstNoRefuses {A = A} (standing st ++ (question k b ∷ questions)) (refuses k)
+unfolding refusedNumber firstNo
+next-refused A st k b questions q n = rw (q, n)
+
+pub none-refused : {A : Type 0} (questions : List Question) (x : A) → firstNo questions ≡ 0 → FirstNoRefuses questions (answers x)
+unfolding refusedNumber
+none-refused questions x e = sym e
+
+-- questions that k is not among refuse by another number
+pub not-first : (k : ℕ) → eqb 0 k ≡ false → (qs : List Question) → asks k qs ≡ false → eqb (firstNo qs) k ≡ false
+unfolding asks firstNo
+not-first k some [] e = some
+not-first k some (q ∷ qs) e = by (q .yes) (eqb (q .number) k) refl (not-first k some qs)
+  where
+    by : (a b : Bool) → eqb (q .number) k ≡ b → (asks k qs ≡ false → eqb (firstNo qs) k ≡ false) → eqb (cond a (firstNo qs) (q .number)) k ≡ false
+    by true false h ih = ih (rw h at e)
+    by false false h ih = h
+    by a true h ih = absurd (false≢true (sym (rw h at e)))
 
 -- what a test says neither of the call done nor of its refusal, it does not say of the call
 pub unless : {B : Type 0} (test : B → Bool) (k : ℕ) (done : B) (refused : ℕ → B) → test done ≡ false → test (refused k) ≡ false
@@ -53,27 +64,3 @@ not-refused e = let n : _≡_ {A = ℕ} 0 1 = ap (λ (b : Bool). cond b 1 0) e i
 
 pub beyond-same : {A : Type 0} (k : ℕ) (xs : List A) → Beyond k xs xs
 beyond-same k xs = record { same-length = refl; same-rest = refl }
-
--- a word that is in none of the first n nodes stands behind them
-outside-behind : (w n i : ℕ) → 0 < w → Outside (λ k. k * w) w n i → n * w ≤ i
-outside-behind w n i h out = by (ltb i (n * w)) refl
-  where
-    in-node : i < n * w → (i < i / w * w) ⊎ (i / w * w + w ≤ i) → ⊥
-    in-node l (inl a) = omega (arith, div-add-mod' i w)
-    in-node l (inr a) = omega (arith, div-add-mod' i w, mod-lt i h)
-
-    by : (b : Bool) → ltb i (n * w) ≡ b → n * w ≤ i
-    by true e = absurd (in-node (ltb-true _ _ e) (out (i / w) (div-lt-iff-lt-mul h .1 (ltb-true _ _ e))))
-    by false e = ltb-false _ _ e
-
-pub nodes-frame : (d n : ℕ) (xs ys : List ℕ) → 2 ≤ d → Beyond (n * (d - 1)) xs ys → NodesFrame (nodeWord d) (d - 1) n xs ys
-nodes-frame d n xs ys h b =
-    record {
-      same-length = b .same-length;
-      same-outside = λ i out.
-          let l : n * (d - 1) ≤ i = outside-behind (d - 1) n i (omega arith) out in
-          let e : n * (d - 1) + (i - n * (d - 1)) ≡ i = omega arith in
-          ap (λ (j : ℕ). getD ys j 0) (sym e) ∙ sym (getD-drop (n * (d - 1)) ys (i - n * (d - 1)) 0)
-          ∙ ap (λ (zs : List ℕ). getD zs (i - n * (d - 1)) 0) (b .same-rest)
-          ∙ getD-drop (n * (d - 1)) xs (i - n * (d - 1)) 0 ∙ ap (λ (j : ℕ). getD xs j 0) e;
-    }

@@ -3,7 +3,8 @@
 -- and values for each of its cases"). Promises speak of outcomes. Assumes nothing.
 use Prim.Native.Nat.{ℕ, zero, suc}
 use mathlib.Core.List.{List, [], _∷_}
-use mathlib.Core.Bool.{Bool, cond}
+use mathlib.Core.Bool.{Bool, false, cond, _||_}
+use lib.Dec.{eqb}
 use lib.IntN.{ℤ}
 use Rattle.model.specs.declared.Settings.{Settings}
 use Rattle.model.specs.declared.Refusal.{Refusal}
@@ -71,6 +72,11 @@ question k b = record { number = k; yes = b }
 unfoldable pub firstNo : List Question → ℕ
 firstNo [] = 0
 firstNo (q ∷ qs) = cond (q .yes) (firstNo qs) (q .number)
+
+-- one of the questions has number k
+unfoldable pub asks : ℕ → List Question → Bool
+asks k [] = false
+asks k (q ∷ qs) = eqb (q .number) k || asks k qs
 
 -- what is done where no question is answered no, else the refusal
 abbrev pub unlessNo : {A : Type 0} → ℕ → A → (ℕ → A) → A

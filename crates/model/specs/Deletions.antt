@@ -94,7 +94,9 @@ pub record OrderIsFree (Leaves : List Call → State → Type 0) : Type 0 where
 abbrev pub OrderOfDeletions : Type 0
 OrderOfDeletions = AfterEveryList (λ st. OrderIsFree (λ cs x. x ≡ run st cs))
 
--- and of calls that code makes
+-- and of calls that are made, `Ran st cs` being the stores that they leave
+abbrev pub OrderOfDeletionsBy : (From : Start → List Call → State → Type 0) (Ran : State → List Call → State → Type 0) → Type 0
+OrderOfDeletionsBy From Ran = (s : Start) (cs : List Call) (st : State) → StartFits s → AllFit cs → From s cs st → OrderIsFree (Ran st)
+
 abbrev pub CodeOrderOfDeletions : Type 0
-CodeOrderOfDeletions =
-    (s : Start) (cs : List Call) (st : State) → StartFits s → AllFit cs → RanFrom s cs st → OrderIsFree (Ran st)
+CodeOrderOfDeletions = OrderOfDeletionsBy RanFrom Ran

@@ -12,7 +12,7 @@ use lib.IntN.{ℤ}
 use Rattle.model.specs.declared.Side.{Side}
 use Rattle.model.specs.declared.Side.the-variants.{Earlier, Later}
 use Rattle.model.specs.declared.Position.{Position}
-use Rattle.model.specs.Answers.{Outcome, answers, TableSaid}
+use Rattle.model.specs.Answers.{Outcome, answers, TableSaid, OutsetSaid}
 use Rattle.model.specs.Rows.{Row, hasRow, tableBytes, Ascending}
 use Rattle.model.specs.Timeslice.{InReport}
 use Rattle.model.specs.Numbering.{nodeWord}
@@ -20,18 +20,19 @@ use Rattle.model.specs.Tree.{Packed}
 use Rattle.model.specs.Pages.{indexNeed}
 use Rattle.model.specs.Memory.{Memory, State, Lendable, Passable, logOf, keysOf}
 use Rattle.model.specs.declared.Held.{Held}
+use Rattle.model.specs.declared.Place.the-variants.{Area}
 use Rattle.model.specs.Outset.{held, earlierFor, laterFor}
 use Rattle.model.specs.Between.{requestsBetween}
 use Rattle.model.specs.NetChange.{Change, netChangeBytes, leads}
 use Rattle.model.specs.Starts.{openOf}
 use Rattle.model.specs.Positions.{PageAndCount}
-use Rattle.model.specs.Queries.{answeredTime, Written, Netted, positionOf, tableOf, rowsAt, netOf}
+use Rattle.model.specs.Queries.{answeredTime, Written, Viewed, Netted, positionOf, tableOf, rowsPart, viewOf, rowsAt, netOf}
 use Rattle.model.specs.Files.{File, filesOf, isKept, keepOf, dropOf, dropMarkedOf}
 use Rattle.model.specs.Audit.{Audited}
 use Rattle.model.specs.Facts.{InOrder}
 use Rattle.model.specs.Units.{unitsOf, differenceOf, UnitsTell, DifferenceTells}
 use Rattle.model.specs.Promises.{isRefused}
-use Rattle.model.specs.Calls.{Start, StartFits, begun, Call, AllFit, Said, positioned, written, netted, totalled, differed, answerOf, step, run, Accepted, Reachable}
+use Rattle.model.specs.Calls.{Start, StartFits, begun, Call, AllFit, Said, positioned, written, viewed, netted, totalled, differed, answerOf, step, run, Accepted, Reachable}
 use Rattle.model.specs.Chains.{Carried, RanFrom}
 
 -- the state that a start and a list of calls leave
@@ -126,18 +127,32 @@ candidate st t Later = laterFor st (answeredTime (st .numbers .last) t)
 -- every other outset then held has at least as many requests between it and the wanted time as the one used, whose
 -- number is the one reported: "Every other outset then held lies at least as many log pages from the wanted time as the
 -- one used, whose distance in pages is the one reported", which since 02's wish 6 "is then read in requests"
-pub record OutsetIsNearest (st : State) (t : ℕ) (table : Written TableSaid) : Type 0 where
+pub record OutsetIsNearest (st : State) (t : ℕ) (side : Side) (between : ℕ) : Type 0 where
+  pub is-held : List·Memᴰ (candidate st t side) (held st)
+  pub reported : between ≡ requestsBetween st t (candidate st t side .time)
+  pub nearest : (h : Held) → List·Memᴰ h (held st) → between ≤ requestsBetween st t (h .time)
+  -- "the earlier one on a tie"
+  pub later-nearer : side ≡ Later → between < requestsBetween st t (candidate st t Earlier .time)
+
+-- a table was answered from the nearest outset
+pub record TableFromNearest (st : State) (t : ℕ) (table : Written TableSaid) : Type 0 where
   pub said : TableSaid
   pub answered : table .outcome ≡ answers said
-  pub is-held : List·Memᴰ (candidate st t (said .side)) (held st)
-  pub reported : said .between ≡ requestsBetween st t (candidate st t (said .side) .time)
-  pub nearest : (h : Held) → List·Memᴰ h (held st) → said .between ≤ requestsBetween st t (h .time)
-  -- "the earlier one on a tie"
-  pub later-nearer : said .side ≡ Later → said .between < requestsBetween st t (candidate st t Earlier .time)
+  pub nearest : OutsetIsNearest st t (said .side) (said .between)
+
+-- and a view answers it: where its rows lie, how many they are, and the rows themselves
+pub record ViewIsNearest (st : State) (t : ℕ) (view : Viewed) : Type 0 where
+  pub said : OutsetSaid
+  pub answered : view .outcome ≡ answers said
+  pub nearest : OutsetIsNearest st t (said .side) (said .between)
+  pub place-is : said .place ≡ candidate st t (said .side) .place
+  pub rows-are : said .rows ≡ candidate st t (said .side) .rows
+  pub part-is : view .rows ≡ rowsPart (st .numbers .limit) (st .memory) (said .place) (said .rows)
 
 pub record DemandThree (st : State) : Type 0 where
   pub net-changes : (a b : ℕ) (out work : List ℕ) → 24 * st .numbers .limit ≤ length out → 16 * st .numbers .limit ≤ length work → NetChangeIs st a b (netOf st a b out work)
-  pub outsets : (t : ℕ) (out : List ℕ) → 8 * st .numbers .limit ≤ length out → OutsetIsNearest st t (tableOf st t out)
+  pub outsets : (t : ℕ) (out : List ℕ) → 8 * st .numbers .limit ≤ length out → TableFromNearest st t (tableOf st t out)
+  pub views : (t : ℕ) → ViewIsNearest st t (viewOf st t)
 
 -- "One log means the same header and the same n records, byte for byte"
 pub record OneLog (st other : State) : Type 0 where
@@ -196,15 +211,22 @@ unfoldable pub some : List ℕ → Bool
 some [] = false
 some (k ∷ ks) = true
 
--- the files hold one of time t exactly where a mark is due, and with that mark
-pub record HeldWith (t : ℕ) (fs : List File) (due : List ℕ) : Type 0 where
-  pub marks : marksAt t fs ≡ due
-  pub kept : isKept t fs ≡ some due
+-- one of the outsets then held is a count file of time t
+pub record FileHeld (st : State) (t : ℕ) : Type 0 where
+  pub area : ℕ
+  pub rows : ℕ
+  pub is-held : List·Memᴰ (record { time = t; place = Area area; rows = rows }) (held st)
+
+-- a count file of time t is held exactly where a mark is due, with that mark, and is then one of the outsets
+pub record HeldWith (t : ℕ) (st : State) (due : List ℕ) : Type 0 where
+  pub marks : marksAt t (filesOf st) ≡ due
+  pub kept : isKept t (filesOf st) ≡ some due
+  pub outset : (some due ≡ true) ↔ FileHeld st t
 
 abbrev pub HeldSinceKept : Type 0
 HeldSinceKept =
     (s : Start) (cs : List Call) → StartFits s → AllFit cs → Accepted (begun s) → (t : ℕ)
-    → HeldWith t (filesOf (left s cs)) (heldAfter t [] (begun s .state) cs)
+    → HeldWith t (left s cs) (heldAfter t [] (begun s .state) cs)
 
 pub record ThirdDemand : Type 0 where
   pub after-every-list : AfterEveryList DemandThree
@@ -234,34 +256,45 @@ pub record UnitsHold (st : State) : Type 0 where
 abbrev pub UnitsTold : Type 0
 UnitsTold = AfterEveryList UnitsHold
 
--- ---- the same of calls that are made, each keeping the promise of its contract
+-- ---- the same of calls that are made: `Made st c said st'` says that call c, made on st, answered said and left st', and
+-- `From s cs st` that the calls cs made from the accepted start s left st. For `Carried` and `RanFrom` (Chains) each call keeps
+-- the promise of its contract; for the exported calls they are those of the crate `exported`
 
 -- a call made on st answers what its definition gives and leaves what it says; so demands 2 and 3 hold of the answers, and
 -- positions and units tell what they must
-pub record AnswersOf (st : State) : Type 0 where
-  pub each : (c : Call) (said : Said) (st' : State) → Carried st c said st' → (said ≡ answerOf st c) × (st' ≡ step st c)
-  pub positions : (t : ℕ) (o : Outcome Position) (st' : State) → Carried st (Call.position t) (positioned o) st' → PositionTells st t o
+pub record AnswersOf (Made : State → Call → Said → State → Type 0) (st : State) : Type 0 where
+  pub each : (c : Call) (said : Said) (st' : State) → Made st c said st' → (said ≡ answerOf st c) × (st' ≡ step st c)
+  pub positions : (t : ℕ) (o : Outcome Position) (st' : State) → Made st (Call.position t) (positioned o) st' → PositionTells st t o
   pub tables : (t : ℕ) (out : List ℕ) (table : Written TableSaid) (st' : State) → 8 * st .numbers .limit ≤ length out
-      → Carried st (Call.table t out) (written table) st' → TableIsTimeslice st t table × OutsetIsNearest st t table
+      → Made st (Call.table t out) (written table) st' → TableIsTimeslice st t table × TableFromNearest st t table
+  pub views : (t : ℕ) (view : Viewed) (st' : State) → Made st (Call.view t) (viewed view) st' → ViewIsNearest st t view
   pub net-changes : (a b : ℕ) (out work : List ℕ) (net : Netted) (st' : State) → 24 * st .numbers .limit ≤ length out → 16 * st .numbers .limit ≤ length work
-      → Carried st (Call.netChange a b out work) (netted net) st' → NetChangeIs st a b net
-  pub units : (t : ℕ) (o : Outcome ℕ) (st' : State) → Carried st (Call.units t) (totalled o) st' → UnitsTell st t o
-  pub differences : (a b : ℕ) (o : Outcome ℤ) (st' : State) → Carried st (Call.difference a b) (differed o) st' → DifferenceTells st a b o
+      → Made st (Call.netChange a b out work) (netted net) st' → NetChangeIs st a b net
+  pub units : (t : ℕ) (o : Outcome ℕ) (st' : State) → Made st (Call.units t) (totalled o) st' → UnitsTell st t o
+  pub differences : (a b : ℕ) (o : Outcome ℤ) (st' : State) → Made st (Call.difference a b) (differed o) st' → DifferenceTells st a b o
 
 -- whatever list of calls is made from an accepted fresh store or opening: the store is what `run` gives, the audit says
--- yes to it, and demands 2 and 3 hold of it and of what the next call on it answers
-pub record StoreKeeps (s : Start) (cs : List Call) (st : State) : Type 0 where
+-- yes to it, demands 2 and 3 hold of it and of what the next call on it answers, and the count files due are held
+pub record StoreKeeps (Made : State → Call → Said → State → Type 0) (s : Start) (cs : List Call) (st : State) : Type 0 where
   pub is-run : st ≡ left s cs
   pub audited : Audited st
   pub second : DemandTwo st
   pub third : DemandThree st
-  pub answered : AnswersOf st
+  pub answered : AnswersOf Made st
+  pub files : (t : ℕ) → HeldWith t st (heldAfter t [] (begun s .state) cs)
+
+abbrev pub KeepsBy : (From : Start → List Call → State → Type 0) (Made : State → Call → Said → State → Type 0) → Type 0
+KeepsBy From Made = (s : Start) (cs : List Call) (st : State) → StartFits s → AllFit cs → From s cs st → StoreKeeps Made s cs st
 
 abbrev pub CodeKeeps : Type 0
-CodeKeeps = (s : Start) (cs : List Call) (st : State) → StartFits s → AllFit cs → RanFrom s cs st → StoreKeeps s cs st
+CodeKeeps = KeepsBy RanFrom Carried
 
--- two lists of calls made that leave one log answer the same table for each time
+-- two lists of calls made that leave one log: two table calls made then, one on each store, answer the same table
+abbrev pub SameTablesBy : (From : Start → List Call → State → Type 0) (Made : State → Call → Said → State → Type 0) → Type 0
+SameTablesBy From Made =
+    (s s' : Start) (cs cs' : List Call) (st st' : State) → StartFits s → StartFits s' → AllFit cs → AllFit cs' → From s cs st → From s' cs' st' → OneLog st st'
+    → (t : ℕ) (out out' : List ℕ) (x y : Written TableSaid) (z z' : State) → 8 * st .numbers .limit ≤ length out → 8 * st .numbers .limit ≤ length out'
+    → Made st (Call.table t out) (written x) z → Made st' (Call.table t out') (written y) z' → SameTable (st .numbers .limit) x y
+
 abbrev pub CodeSameTables : Type 0
-CodeSameTables =
-    (s s' : Start) (cs cs' : List Call) (st st' : State) → StartFits s → StartFits s' → AllFit cs → AllFit cs'
-    → RanFrom s cs st → RanFrom s' cs' st' → OneLog st st' → OneTable st st'
+CodeSameTables = SameTablesBy RanFrom Carried

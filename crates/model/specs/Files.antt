@@ -1,5 +1,5 @@
--- Keep and drop a count file (01, "Count files", "The questions, in order"), and drop by mark (02, wish 3). Promised where the
--- audit passes the memory. Assumes nothing.
+-- Keep and drop a count file (01, "Count files", "The questions, in order"), and drop by mark (02, wish 3). Keep is promised
+-- where the audit passes the memory, the drops on any memory. Assumes nothing.
 use Prim.Native.Nat.{ℕ, suc, _+_, _-_, _*_}
 use mathlib.Core.List.{List, [], _∷_, _++_, map}
 use mathlib.Core.Bool.{Bool, false, not, cond, _&&_, _||_}
@@ -80,19 +80,20 @@ unfoldable pub fileIn : File → List File → List File
 fileIn f [] = f ∷ []
 fileIn f (x ∷ xs) = cond (ltb (x .entry .time) (f .entry .time)) (x ∷ fileIn f xs) (f ∷ (x ∷ xs))
 
+-- a file of time t with so many rows, mark k and this area
+abbrev pub fileOf : (t rows k : ℕ) → List ℕ → File
+fileOf t rows k area = record { entry = record { time = t; rows = rows; mark = k }; area = area }
+
 -- the file of time t and mark k: its entry and its table
 abbrev pub fileAt : State → ℕ → ℕ → File
-fileAt st t k =
-    record {
-      entry = record { time = t; rows = length (rowsAt st t); mark = k };
-      area = tableBytes (st .numbers .limit) (rowsAt st t);
-    }
+fileAt st t k = fileOf t (length (rowsAt st t)) k (tableBytes (st .numbers .limit) (rowsAt st t))
+
+-- the store with one file more
+abbrev pub withFile : File → State → State
+withFile f st = state (withCount (st .numbers) (st .numbers .files + 1)) (withFiles (fileIn f (filesOf st)) (st .memory))
 
 unfoldable pub keepOf : State → ℕ → ℕ → After
-keepOf st t k =
-    unlessNo (firstNo (keepQuestions st t k))
-    (after (answers tt) (state (withCount (st .numbers) (st .numbers .files + 1)) (withFiles (fileIn (fileAt st t k) (filesOf st)) (st .memory))))
-    (unchanged st)
+keepOf st t k = unlessNo (firstNo (keepQuestions st t k)) (after (answers tt) (withFile (fileAt st t k) st)) (unchanged st)
 
 -- ---- the files that a test lets stay
 

@@ -4,12 +4,12 @@
 use Prim.Native.Nat.{ℕ, _*_, _≤_, _<_}
 use mathlib.Core.Path.{_≡_}
 use mathlib.Core.List.{List, [], _∷_, _++_}
-use mathlib.Core.Bool.{Bool, true, false, _&&_, _||_}
+use mathlib.Core.Bool.{Bool, true, false, _&&_}
 use lib.ListN.{length}
-use lib.Dec.{leb, eqb}
+use lib.Dec.{leb}
 use lib.IntN.{ℤ}
 use Rattle.model.specs.declared.Position.{Position}
-use Rattle.model.specs.Answers.{Outcome, answers, refuses, Question, question, firstNo, unlessNo, TableSaid}
+use Rattle.model.specs.Answers.{Outcome, answers, refuses, question, asks, firstNo, unlessNo, TableSaid}
 use Rattle.model.specs.Memory.{State, sound, standing}
 use Rattle.model.specs.Positions.{positionAt}
 use Rattle.model.specs.Queries.{positionOf, Written, tableQuestions, tableAt, noTable, tableOf, Viewed, viewAt, noView, viewOf, Netted, netQuestions, netAt, noNet, netOf}
@@ -81,11 +81,6 @@ EveryTimeAnswered = (st : State) → AsBefore st × (AsTheLast st × (st .number
 
 -- ---- "Only a keep can meet 12 from here on"
 
--- one of the questions has number k
-unfoldable pub asks : ℕ → List Question → Bool
-asks k [] = false
-asks k (q ∷ qs) = eqb (q .number) k || asks k qs
-
 -- position, view, units and difference ask the standing questions alone
 pub record TimeAskedByKeep (st : State) : Type 0 where
   pub standing-without : asks 12 (standing st) ≡ false
@@ -114,3 +109,7 @@ pub record OnlyKeepMeets12 : Type 0 where
   pub no-start : (s : Start) → refusedBy 12 (begun s .outcome) ≡ false
   pub keep-alone : (st : State) (c : Call) → saidRefusedBy 12 (answerOf st c) ≡ true → IsKeep c
   pub keep-refused : (st : State) (t k : ℕ) → sound st ≡ true → st .numbers .last < t → keepOf st t k ≡ unchanged st 12
+
+-- the same of every call that is made, on any memory: the promises of the others name questions that 12 is not among
+abbrev pub OnlyKeepRefusedBy12 : (Made : State → Call → Said → State → Type 0) → Type 0
+OnlyKeepRefusedBy12 Made = (st : State) (c : Call) (said : Said) (st' : State) → Made st c said st' → saidRefusedBy 12 said ≡ true → IsKeep c

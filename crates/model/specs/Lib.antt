@@ -23,6 +23,7 @@ pub mod Audit
 pub mod Units
 pub mod Facts
 pub mod Promises
+pub mod FileFrames
 pub mod Calls
 pub mod Chains
 pub mod Demands

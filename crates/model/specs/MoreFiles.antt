@@ -33,13 +33,14 @@ pub record Tells {A : Type 0} (told : A → ℕ) (n : ℕ) (o : Outcome A) : Typ
   pub answered : o ≡ answers said
   pub is : told said ≡ n
 
--- what a call on a store answers: by its definition; where it is made by code, by the promise of its contract
+-- what a call on a store answers: by its definition
 abbrev pub Defined : State → Call → Said → Type 0
 Defined st c said = said ≡ answerOf st c
 
-pub record Made (st : State) (c : Call) (said : Said) : Type 0 where
+-- by a way of making calls, whatever it leaves
+pub record AnsweredBy (Made : State → Call → Said → State → Type 0) (st : State) (c : Call) (said : Said) : Type 0 where
   pub after : State
-  pub carried : Carried st c said after
+  pub made : Made st c said after
 
 -- n is the requests between that every table for t, whatever its output, and every view for t report
 pub record Reports (Answered : State → Call → Said → Type 0) (st : State) (t n : ℕ) : Type 0 where
@@ -60,8 +61,11 @@ KeepingMore =
     (s s' : Start) (cs cs' : List Call) → StartFits s → StartFits s' → AllFit cs → AllFit cs' → Accepted (begun s) → Accepted (begun s')
     → OneLog (left s cs) (left s' cs') → HoldsEvery (left s cs) (left s' cs') → (t : ℕ) → NoMoreRequests Defined (left s cs) (left s' cs') t
 
--- and of calls that code makes
-abbrev pub CodeKeepingMore : Type 0
-CodeKeepingMore =
+-- and of calls that are made
+abbrev pub KeepingMoreBy : (From : Start → List Call → State → Type 0) (Made : State → Call → Said → State → Type 0) → Type 0
+KeepingMoreBy From Made =
     (s s' : Start) (cs cs' : List Call) (st st' : State) → StartFits s → StartFits s' → AllFit cs → AllFit cs'
-    → RanFrom s cs st → RanFrom s' cs' st' → OneLog st st' → HoldsEvery st st' → (t : ℕ) → NoMoreRequests Made st st' t
+    → From s cs st → From s' cs' st' → OneLog st st' → HoldsEvery st st' → (t : ℕ) → NoMoreRequests (AnsweredBy Made) st st' t
+
+abbrev pub CodeKeepingMore : Type 0
+CodeKeepingMore = KeepingMoreBy RanFrom Carried

@@ -32,13 +32,13 @@ unfoldable pub legalOn : List Row → Change → Bool
 legalOn rows c = cond (eqb (c .kind) 2) (lacks (c .article) rows) (eqb (c .kind) 3 && hasRow (rowIn c) rows)
 
 -- an insertion "adds the row", a deletion "removes the row"
-unfoldable pub changed : List Row → Change → List Row
-changed rows c = cond (eqb (c .kind) 2) (putIn (rowIn c) rows) (without (c .article) rows)
+unfoldable pub withChange : List Row → Change → List Row
+withChange rows c = cond (eqb (c .kind) 2) (putIn (rowIn c) rows) (without (c .article) rows)
 
 -- "A list leads from one table to another when each entry is legal and the rows at the end are the other's"
 unfoldable pub leads : List Change → List Row → List Row → Bool
 leads [] rows goal = sameRows rows goal
-leads (c ∷ cs) rows goal = legalOn rows c && leads cs (changed rows c) goal
+leads (c ∷ cs) rows goal = legalOn rows c && leads cs (withChange rows c) goal
 
 -- ---- the net change from a to b
 

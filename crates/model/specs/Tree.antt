@@ -1,15 +1,15 @@
 -- The packed tree over a list of keys (01, "Packed tree"), and an index that holds it.
 -- `treeOf`, `withTree`, `Packed` and `pagePosition` are what contracts cite. Assumes nothing.
-use Prim.Native.Nat.{ℕ, zero, suc, _+_, _-_, _*_, _≤_, _<_}
+use Prim.Native.Nat.{ℕ, zero, suc, _+_, _-_, _*_, _/_, _%_, _≤_, _<_}
 use mathlib.Core.Path.{_≡_}
 use mathlib.Core.Logic.{_⊎_}
-use mathlib.Core.List.{List, [], _∷_, _++_}
-use mathlib.Core.Bool.{cond}
+use mathlib.Core.List.{List, [], _∷_, _++_, List·Memᴰ}
+use mathlib.Core.Bool.{not, cond, _&&_}
 use lib.ListN.{length, getD, take, drop, replicate}
-use lib.Dec.{leb}
+use lib.Dec.{leb, eqb}
 use Rattle.codec.specs.Parts.{zeros, put}
-use Rattle.model.specs.Shape.{opens, leavesOf, leafWords, innerWords}
-use Rattle.model.specs.Numbering.{nodes, nodeWord}
+use Rattle.model.specs.Shape.{opens, host, leavesOf, leafWords, innerWords}
+use Rattle.model.specs.Numbering.{nodes, leafNode, innerNode, nodeWord}
 
 -- the nodes in the order of allocation, for m leaves: a new inner node, then its leaf
 unfoldable pub allotted : ℕ → (inner leaf : ℕ → List ℕ) → ℕ → List (List ℕ)
@@ -54,6 +54,21 @@ Outside at w n i = (k : ℕ) → k < n → (i < at k) ⊎ (at k + w ≤ i)
 pub record NodesFrame (at : ℕ → ℕ) (w n : ℕ) (xs ys : List ℕ) : Type 0 where
   pub same-length : length ys ≡ length xs
   pub same-outside : (i : ℕ) → Outside at w n i → getD ys i 0 ≡ getD xs i 0
+
+-- ---- what an append may write
+
+-- the nodes that one key after k others is written to: the last leaf, or the leaf that is then needed, and with it the node that
+-- takes the separator, a new one or "the open node of that level"
+unfoldable pub nodesWritten : ℕ → ℕ → List ℕ
+nodesWritten d k =
+    let m = k / (d - 1) in
+    cond (eqb (k % (d - 1)) 0 && not (eqb m 0)) (innerNode d (host d m) ∷ leafNode d m ∷ []) (leafNode d m ∷ [])
+
+-- of the index xs of `from` keys nothing but words of those nodes was written, up to `to` keys
+pub record AppendsFrame (d from to : ℕ) (xs ys : List ℕ) : Type 0 where
+  pub same-length : length ys ≡ length xs
+  pub same-outside : (i : ℕ) → ((k node : ℕ) → from ≤ k → k < to → List·Memᴰ node (nodesWritten d k) → (i < nodeWord d node) ⊎ (nodeWord d node + (d - 1) ≤ i))
+      → getD ys i 0 ≡ getD xs i 0
 
 -- ---- positions
 

@@ -181,6 +181,20 @@ impl Entry {
     pub const SUNDAY: u32 = 7;
 }
 
+// "At most 65,536 records", and 16 count files.
+impl Numbers {
+    pub const RECORDS_MAX: u32 = 65536;
+
+    pub const FILES_MAX: usize = 16;
+}
+
+// The kinds of a record.
+impl Record {
+    pub const INSERTION: u16 = 2;
+
+    pub const DELETION: u16 = 3;
+}
+
 impl Settings {
     pub const ORDER_MIN: u16 = 2;
 
@@ -193,10 +207,6 @@ impl Settings {
     pub const LIMIT_MIN: u32 = 1;
 
     pub const LIMIT_MAX: u32 = 1024;
-
-    pub const RECORDS_MAX: u32 = 65536;
-
-    pub const FILES_MAX: usize = 16;
 
     // The settings, or the refusal of the first that is out of its range.
     pub fn checked(order: u16, page: u16, limit: u32) -> Checked

@@ -9,7 +9,7 @@ use lib.ListN.{length}
 use lib.Dec.{eqb}
 use borrow.Author.Tests.{lt-ltb}
 use Rattle.model.specs.Rows.{Row, sameRow, sameRows, lacks, hasRow, Ascending, putIn, without}
-use Rattle.model.specs.NetChange.{Change, rowIn, legalOn, changed, leads, missing}
+use Rattle.model.specs.NetChange.{Change, rowIn, legalOn, withChange, leads, missing}
 use Rattle.model.proofs.Compare.{lt-eqb, and-left, and-right, and-both}
 use Rattle.model.proofs.RowLaws.{asc-in, asc-without}
 use Rattle.model.proofs.RowSets.{same-rows-true, same-row-true, same-row-self, has-in, has-without}
@@ -24,8 +24,8 @@ apart T B = length (missing T B) + length (missing B T)
 
 module _ (T : List Row) (c : Change) (h : Ascending 0 T) where
   -- a legal entry leaves rows ascending
-  pub changed-asc : legalOn T c ≡ true → Ascending 0 (changed T c)
-  unfolding legalOn changed
+  pub changed-asc : legalOn T c ≡ true → Ascending 0 (withChange T c)
+  unfolding legalOn withChange
   changed-asc = by (eqb (c .kind) 2)
     where
       by : (t : Bool) → cond t (lacks (c .article) T) (eqb (c .kind) 3 && hasRow (rowIn c) T) ≡ true → Ascending 0 (cond t (putIn (rowIn c) T) (without (c .article) T))
@@ -33,8 +33,8 @@ module _ (T : List Row) (c : Change) (h : Ascending 0 T) where
       by false e = asc-without 0 (c .article) T h
 
   -- and brings them at most one row nearer
-  pub changed-nearer : (B : List Row) → Ascending 0 B → apart T B ≤ suc (apart (changed T c) B)
-  unfolding changed
+  pub changed-nearer : (B : List Row) → Ascending 0 B → apart T B ≤ suc (apart (withChange T c) B)
+  unfolding withChange
   changed-nearer B g = by (eqb (c .kind) 2)
     where
       fewer : (q : Row) → hasRow q (without (c .article) T) ≡ true → hasRow q T ≡ true
@@ -51,9 +51,9 @@ leads-fewest [] T B h g e =
     let k : T ≡ B = same-rows-true T B e in
     rw k (omega (arith, missing-self B))
 leads-fewest (c ∷ cs) T B h g e =
-    let legal : legalOn T c ≡ true = and-left (legalOn T c) (leads cs (changed T c) B) e in
-    let rest : leads cs (changed T c) B ≡ true = and-right (legalOn T c) (leads cs (changed T c) B) e in
-    omega (arith, changed-nearer T c h B g, leads-fewest cs (changed T c) B (changed-asc T c h legal) g rest)
+    let legal : legalOn T c ≡ true = and-left (legalOn T c) (leads cs (withChange T c) B) e in
+    let rest : leads cs (withChange T c) B ≡ true = and-right (legalOn T c) (leads cs (withChange T c) B) e in
+    omega (arith, changed-nearer T c h B g, leads-fewest cs (withChange T c) B (changed-asc T c h legal) g rest)
 
 -- ---- a row below all entries
 
@@ -62,8 +62,8 @@ module _ (x : Row) (T : List Row) (c : Change) (h : x .article < c .article) whe
   unfolding legalOn lacks hasRow
   legal-above = rw (lt-eqb h)
 
-  changed-above : changed (x ∷ T) c ≡ x ∷ changed T c
-  unfolding changed putIn without
+  changed-above : withChange (x ∷ T) c ≡ x ∷ withChange T c
+  unfolding withChange putIn without
   changed-above = by (eqb (c .kind) 2)
     where
       by : (t : Bool) → cond t (putIn (rowIn c) (x ∷ T)) (without (c .article) (x ∷ T)) ≡ x ∷ cond t (putIn (rowIn c) T) (without (c .article) T)
@@ -76,7 +76,7 @@ unfolding From leads sameRows
 leads-above x [] T G f = rw (same-row-self x)
 leads-above x (c ∷ cs) T G f =
     let l : x .article < c .article = f .0 in
-    rw (legal-above x T c l, changed-above x T c l, leads-above x cs (changed T c) G (f .1))
+    rw (legal-above x T c l, changed-above x T c l, leads-above x cs (withChange T c) G (f .1))
 
 -- it stands first at the end too
 pub leads-keeps : (x : Row) (cs : List Change) (T G : List Row) → From (suc (x .article)) cs → leads cs (x ∷ T) G ≡ true
@@ -88,7 +88,7 @@ leads-keeps x [] T (y ∷ ys) f e =
     (ys, (rw k, and-right (sameRow x y) (sameRows T ys) e))
 leads-keeps x (c ∷ cs) T G f e =
     let l : x .article < c .article = f .0 in
-    let g : legalOn T c && leads cs (x ∷ changed T c) G ≡ true = rw (legal-above x T c l, changed-above x T c l) at e in
-    let legal : legalOn T c ≡ true = and-left (legalOn T c) (leads cs (x ∷ changed T c) G) g in
-    let rest = leads-keeps x cs (changed T c) G (f .1) (and-right (legalOn T c) (leads cs (x ∷ changed T c) G) g) in
+    let g : legalOn T c && leads cs (x ∷ withChange T c) G ≡ true = rw (legal-above x T c l, changed-above x T c l) at e in
+    let legal : legalOn T c ≡ true = and-left (legalOn T c) (leads cs (x ∷ withChange T c) G) g in
+    let rest = leads-keeps x cs (withChange T c) G (f .1) (and-right (legalOn T c) (leads cs (x ∷ withChange T c) G) g) in
     (rest .0, (rest .1 .0, and-both legal (rest .1 .1)))

@@ -8,7 +8,7 @@ use mathlib.Core.Logic.{_↔_}
 use native.Mathlib.Omega.{arith}
 use lib.ListN.{length, length-append, length-map}
 use Rattle.model.specs.Rows.{Row, sameRows, Ascending, without}
-use Rattle.model.specs.NetChange.{Change, inserts, deletes, legalOn, changed, leads, missing, netChange}
+use Rattle.model.specs.NetChange.{Change, inserts, deletes, legalOn, withChange, leads, missing, netChange}
 use Rattle.model.proofs.Compare.{eqb-self}
 use Rattle.model.proofs.RowLaws.{asc-lacks, without-lacks, in-front}
 use Rattle.model.proofs.RowSets.{has-first}
@@ -32,14 +32,14 @@ length-net-le A B = omega (arith, length-net A B, length-missing-le A B, length-
 -- ---- one entry at an end of a table
 
 -- the first row is deleted
-pub delete-first : (r : Row) (A : List Row) → Ascending (suc (r .article)) A → (legalOn (r ∷ A) (deletes r) ≡ true) × (changed (r ∷ A) (deletes r) ≡ A)
-unfolding legalOn changed without
+pub delete-first : (r : Row) (A : List Row) → Ascending (suc (r .article)) A → (legalOn (r ∷ A) (deletes r) ≡ true) × (withChange (r ∷ A) (deletes r) ≡ A)
+unfolding legalOn withChange without
 delete-first r A h =
     (has-first r A, rw (eqb-self (r .article)) (without-lacks (r .article) A (asc-lacks (suc (r .article)) (r .article) A h (omega arith))))
 
 -- a row goes in front
-pub insert-first : (r : Row) (A : List Row) → Ascending (suc (r .article)) A → (legalOn A (inserts r) ≡ true) × (changed A (inserts r) ≡ r ∷ A)
-unfolding legalOn changed
+pub insert-first : (r : Row) (A : List Row) → Ascending (suc (r .article)) A → (legalOn A (inserts r) ≡ true) × (withChange A (inserts r) ≡ r ∷ A)
+unfolding legalOn withChange
 insert-first r A h = (asc-lacks (suc (r .article)) (r .article) A h (omega arith), in-front (suc (r .article)) r A h (omega arith))
 
 -- ---- it leads there

@@ -8,7 +8,7 @@ use native.Mathlib.Omega.{arith}
 use lib.ListN.{length}
 use borrow.Author.Tests.{eq-eqb}
 use Rattle.model.specs.Rows.{Row, sameRow, lacks, hasRow, Ascending}
-use Rattle.model.specs.NetChange.{Change, inserts, deletes, legalOn, changed, leads, netChange}
+use Rattle.model.specs.NetChange.{Change, inserts, deletes, legalOn, withChange, leads, netChange}
 use Rattle.model.proofs.Compare.{Compared, less, same, more, compared, and-left, and-right}
 use Rattle.model.proofs.RowLaws.{asc-no-row}
 use Rattle.model.proofs.RowSets.{same-rows-true, same-row-true}
@@ -30,11 +30,11 @@ well-formed-from {lo} (WellFormed.recount {cs = cs} r q l e n w) = (l, (omega ar
 module _ (c : Change) (cs : List Change) (A B : List Row) (e : leads (c ∷ cs) A B ≡ true) where
   first-legal : legalOn A c ≡ true
   unfolding leads
-  first-legal = and-left (legalOn A c) (leads cs (changed A c) B) e
+  first-legal = and-left (legalOn A c) (leads cs (withChange A c) B) e
 
-  rest-leads : leads cs (changed A c) B ≡ true
+  rest-leads : leads cs (withChange A c) B ≡ true
   unfolding leads
-  rest-leads = and-right (legalOn A c) (leads cs (changed A c) B) e
+  rest-leads = and-right (legalOn A c) (leads cs (withChange A c) B) e
 
 -- no row below a table is deleted from it
 none-below : (r : Row) (cs : List Change) (A B : List Row) → Ascending (suc (r .article)) A → leads (deletes r ∷ cs) A B ≡ true → ⊥

@@ -17,7 +17,8 @@ use Rattle.model.specs.declared.DifferenceAnswer.the-variants as difference
 use Rattle.model.specs.declared.DropMarkedAnswer.the-variants as marked
 use Rattle.lending.specs.declared.LengthsAnswer.the-variants as lengths
 use Rattle.model.specs.Answers.{refusal}
-use Rattle.answers.specs.Question.{questionOf, recordIn, numberOf}
+use Rattle.model.specs.Promises.{refusedNumber}
+use Rattle.answers.specs.Question.{recordIn, numberOf}
 use Rattle.numbered.specs.Answers.{changeOut, dropMarkedOut, positionOut, laterOf, tableOut, placeOut, areaOut, spanOf, viewOut, netChangeOut, unitsOut, differenceOut, lengthsOut}
 
 -- every refusal's number, as 01 numbers its questions
@@ -27,7 +28,7 @@ refusals =
     ∷ NotToKeep ∷ CatalogueFull ∷ NotKept ∷ WrongRecord (record { 0 = 33 }) ∷ WrongMark ∷ []
 
 numbers-are : map numberOf refusals ≡ 1 ∷ 2 ∷ 3 ∷ 4 ∷ 5 ∷ 6 ∷ 7 ∷ 8 ∷ 9 ∷ 10 ∷ 11 ∷ 12 ∷ 13 ∷ 14 ∷ 15 ∷ 16 ∷ 17 ∷ 18 ∷ []
-unfolding questionOf refusal
+unfolding refusedNumber refusal
 numbers-are = refl
 
 abbrev s : Numbers
@@ -38,7 +39,7 @@ unfolding changeOut
 changed = refl
 
 wrong : changeOut s (verdict.Refused (WrongRecord (record { 0 = 33 }))) ≡ record { numbers = s; question = 17; «record» = 33 }
-unfolding changeOut questionOf recordIn refusal
+unfolding changeOut refusedNumber recordIn refusal
 wrong = refl
 
 -- 3 went, and 1 is left
@@ -47,7 +48,7 @@ unfolding dropMarkedOut
 cleared = refl
 
 not-cleared : dropMarkedOut s (marked.Refused WrongMark) ≡ record { numbers = s; question = 18; gone = 0 }
-unfolding dropMarkedOut questionOf refusal
+unfolding dropMarkedOut refusedNumber refusal
 not-cleared = refl
 
 placed : positionOut (position.At (record { page = record { 0 = 7 }; requests = 15 })) ≡ record { question = 0; page = 7; requests = 15 }
@@ -55,12 +56,16 @@ unfolding positionOut
 placed = refl
 
 unplaced : positionOut (position.Refused Header) ≡ record { question = 1; page = 0; requests = 0 }
-unfolding positionOut questionOf refusal
+unfolding positionOut refusedNumber refusal
 unplaced = refl
 
 later : tableOut (table.Table 11 Later 13) ≡ record { question = 0; rows = 11; later = 1; between = 13 }
 unfolding tableOut laterOf
 later = refl
+
+untabled : tableOut (table.Refused OutputShort) ≡ record { question = 13; rows = 0; later = 0; between = 0 }
+unfolding tableOut refusedNumber refusal
+untabled = refl
 
 -- R = 4, 100 bytes of areas, a table of 32: file 2 with 3 rows, its part bytes 64 to 87
 in-area : viewOut 4 100 32 (view.Outset (Area 2) 3 Later 5) ≡ record { question = 0; place = 1; area = 2; rows = 3; later = 1; between = 5; start = 64; length = 24 }
@@ -80,6 +85,10 @@ empty : viewOut 4 100 32 (view.Outset Empty 0 Earlier 5) ≡ record { question =
 unfolding viewOut spanOf placeOut areaOut laterOf
 empty = refl
 
+unviewed : viewOut 4 100 32 (view.Refused Header) ≡ record { question = 1; place = 0; area = 0; rows = 0; later = 0; between = 0; start = 0; length = 0 }
+unfolding viewOut refusedNumber refusal
+unviewed = refl
+
 netted : netChangeOut (net.Entries 19) ≡ record { question = 0; entries = 19 }
 unfolding netChangeOut
 netted = refl
@@ -94,18 +103,23 @@ unfolding differenceOut
 fallen = refl
 
 no-units : unitsOut (units.Refused Header) ≡ record { question = 1; units = 0 }
-unfolding unitsOut questionOf refusal
+unfolding unitsOut refusedNumber refusal
 no-units = refl
 
 no-difference : differenceOut (difference.Refused Header) ≡ record { question = 1; units = pos 0 }
-unfolding differenceOut questionOf refusal
+unfolding differenceOut refusedNumber refusal
 no-difference = refl
 
 short : netChangeOut (net.Refused OutputShort) ≡ record { question = 13; entries = 0 }
-unfolding netChangeOut questionOf refusal
+unfolding netChangeOut refusedNumber refusal
 short = refl
 
 lent : lengthsOut (lengths.Lend (record { log = 144; index = 8; table = 32; entries = 2; areas = 64; output = 96; workspace = 48 }))
     ≡ record { question = 0; log = 144; index = 8; table = 32; entries = 2; areas = 64; output = 96; workspace = 48 }
 unfolding lengthsOut
 lent = refl
+
+-- refused lengths are no lengths
+unlent : lengthsOut (lengths.Refused CatalogueFull) ≡ record { question = 15; log = 0; index = 0; table = 0; entries = 0; areas = 0; output = 0; workspace = 0 }
+unfolding lengthsOut refusedNumber refusal
+unlent = refl

@@ -10,7 +10,8 @@ use Rattle.model.specs.declared.Verdict.the-variants as verdict
 use Rattle.model.specs.Answers.{refusesAt, verdictOutcome}
 use Rattle.model.specs.Starts.{After}
 use Rattle.model.proofs.FirstWrongLaws.{tells-first-wrong}
-use Rattle.answers.specs.Question.{questionOf, recordIn}
+use Rattle.model.specs.Promises.{refusedNumber}
+use Rattle.answers.specs.Question.{recordIn}
 use Rattle.answers.proofs.Questions.{wrong-record-at-17}
 use Rattle.numbered.specs.declared.answer.YkChange.{YkChange}
 use Rattle.numbered.specs.Answers.{changeOut}
@@ -21,9 +22,9 @@ abbrev Says : YkChange → ℕ → Type 0
 Says r k = (r .question ≡ 17) × (r .«record» ≡ k)
 
 says-iff : (s : Numbers) (v : Verdict) (k : ℕ) → Says (changeOut s v) k ↔ (verdictOutcome v ≡ refusesAt 17 k)
-unfolding changeOut verdictOutcome questionOf recordIn
-says-iff s verdict.Accepted k = (λ h. absurd (omega (arith, h .0)), λ e. (ap questionOf e, ap recordIn e))
-says-iff s (verdict.Refused why) k = (λ h. wrong-record-at-17 why (h .0) ∙ ap (refusesAt 17) (h .1), λ e. (ap questionOf e, ap recordIn e))
+unfolding changeOut verdictOutcome refusedNumber recordIn
+says-iff s verdict.Accepted k = (λ h. absurd (omega (arith, h .0)), λ e. (ap refusedNumber e, ap recordIn e))
+says-iff s (verdict.Refused why) k = (λ h. wrong-record-at-17 why (h .0) ∙ ap (refusesAt 17) (h .1), λ e. (ap refusedNumber e, ap recordIn e))
 
 pub crossed-tells-first-wrong : CrossedTellsFirstWrong
 crossed-tells-first-wrong m r memory' c k =

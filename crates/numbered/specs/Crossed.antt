@@ -17,11 +17,11 @@ use Rattle.model.specs.declared.NetChangeAnswer.{NetChangeAnswer}
 use Rattle.model.specs.declared.UnitsAnswer.{UnitsAnswer}
 use Rattle.model.specs.declared.DifferenceAnswer.{DifferenceAnswer}
 use Rattle.model.specs.declared.DropMarkedAnswer.{DropMarkedAnswer}
-use Rattle.model.specs.Answers.{Outcome, verdictOutcome, positionOutcome, tableOutcome, viewOutcome, netChangeOutcome, unitsOutcome, differenceOutcome, dropMarkedOutcome}
+use Rattle.model.specs.Answers.{Outcome, Question, verdictOutcome, positionOutcome, tableOutcome, viewOutcome, netChangeOutcome, unitsOutcome, differenceOutcome, dropMarkedOutcome}
 use Rattle.model.specs.Memory.{Memory, State, state}
 use Rattle.model.specs.Starts.{Result, After, after, openOf}
 use Rattle.model.specs.FirstWrong.{DueAt17}
-use Rattle.model.specs.Promises.{AppendPromise, FilesPromise, PositionPromise, TablePromise, ViewPromise, NetChangePromise, UnitsPromise, DifferencePromise}
+use Rattle.model.specs.Promises.{AppendPromise, KeepPromise, PositionPromise, TablePromise, ViewPromise, NetChangePromise, UnitsPromise, DifferencePromise}
 use Rattle.lending.specs.declared.LengthsAnswer.{LengthsAnswer}
 use Rattle.lending.specs.Lengths.{lengthsOf, lengthsOutcome}
 use Rattle.numbered.specs.declared.answer.YkChange.{YkChange}
@@ -42,30 +42,29 @@ pub record ChangeCrossed (Kept : Outcome Unit → State → Type 0) (r : YkChang
   pub is : r ≡ changeOut numbers verdict
   pub kept : Kept (verdictOutcome verdict) (state numbers memory')
 
--- fresh store and opening: exactly what 01 says, on any memory
-abbrev pub StartCrossed : YkChange → Memory → After → Type 0
-StartCrossed r memory' defined = ChangeCrossed (λ o st'. after o st' ≡ defined) r memory'
+-- fresh store, opening and drop: exactly what 01 says, on any memory
+abbrev pub ExactlyCrossed : YkChange → Memory → After → Type 0
+ExactlyCrossed r memory' defined = ChangeCrossed (λ o st'. after o st' ≡ defined) r memory'
 
 -- 02, wish 4, of what an opening answers that keeps this promise: question 17 and record k exactly where that is due
 abbrev pub CrossedTellsFirstWrong : Type 0
 CrossedTellsFirstWrong =
-    (m : Memory) (r : YkChange) (memory' : Memory) → StartCrossed r memory' (openOf m)
+    (m : Memory) (r : YkChange) (memory' : Memory) → ExactlyCrossed r memory' (openOf m)
     → (k : ℕ) → ((r .question ≡ 17) × (r .«record» ≡ k)) ↔ DueAt17 m k
 
 -- insert, delete and update
-abbrev pub AppendCrossed : ℕ → YkChange → State → Memory → After → Type 0
-AppendCrossed more r st memory' defined = ChangeCrossed (λ o st'. AppendPromise more st o st' defined) r memory'
+abbrev pub AppendCrossed : ℕ → YkChange → State → List Question → Memory → After → Type 0
+AppendCrossed more r st questions memory' defined = ChangeCrossed (λ o st'. AppendPromise more st questions o st' defined) r memory'
 
--- keep and drop
-abbrev pub FilesCrossed : ℕ → YkChange → State → Memory → After → Type 0
-FilesCrossed files r st memory' defined = ChangeCrossed (λ o st'. FilesPromise files st o st' defined) r memory'
+abbrev pub KeepCrossed : YkChange → State → (t k : ℕ) → Memory → Type 0
+KeepCrossed r st t k memory' = ChangeCrossed (λ o st'. KeepPromise st t k o st') r memory'
 
--- drop by mark
-pub record DropMarkedCrossed (files : ℕ) (r : YkDropMarked) (st : State) (memory' : Memory) (defined : Result ℕ) : Type 0 where
+-- drop by mark: exactly what 02 says, on any memory
+pub record DropMarkedCrossed (r : YkDropMarked) (memory' : Memory) (defined : Result ℕ) : Type 0 where
   pub numbers : Numbers
   pub answer : DropMarkedAnswer
   pub is : r ≡ dropMarkedOut numbers answer
-  pub kept : FilesPromise files st (dropMarkedOutcome answer) (state numbers memory') defined
+  pub kept : after (dropMarkedOutcome answer) (state numbers memory') ≡ defined
 
 pub record PositionCrossed (r : YkPosition) (st : State) (t : ℕ) : Type 0 where
   pub answer : PositionAnswer

@@ -2,12 +2,13 @@
 ghost use mathlib.Core.Path.{_≡_};
 ghost use Rattle.numbered.specs.Answers.{changeOut, positionOut, laterOf, tableOut, netChangeOut, unitsOut, differenceOut, dropMarkedOut, yesOut};
 use answers::question;
-use catalogue::Catalogue;
 use filing::Cleared;
-use filing::Filed;
+use filing::Dropped;
+use filing::Kept;
 use model::Changed;
 use model::DifferenceAnswer;
 use model::DropMarkedAnswer;
+use model::Entry;
 use model::NetChangeAnswer;
 use model::Numbers;
 use model::PositionAnswer;
@@ -77,16 +78,24 @@ pub struct Begun {
     pub clears: usize,
 }
 
-// What keep or drop answers, and the catalogue to be written back.
-pub struct Refiled {
+// What a keep answers, and the entry that goes to place `at`, those from there up to `end` going up.
+pub struct KeptOut {
     pub change: YkChange,
-    pub catalogue: Catalogue,
+    pub entry: Entry,
+    pub at: usize,
+    pub end: usize,
 }
 
-// What a drop by mark answers, and the catalogue to be written back.
+// What a drop answers, and over how many entries those that stay are closed up.
+pub struct DroppedOut {
+    pub change: YkChange,
+    pub over: usize,
+}
+
+// The same of a drop by mark.
 pub struct ClearedOut {
     pub answer: YkDropMarked,
-    pub catalogue: Catalogue,
+    pub over: usize,
 }
 
 fn change_out(numbers: Numbers, verdict: Verdict) -> YkChange
@@ -135,19 +144,39 @@ pub fn begun_change(r: Begun) -> YkChange
     change
 }
 
-// What keep or drop answered, in numbers.
-pub fn refile(x: Filed) -> Refiled
-    ensures { λ r. ⌜ (r .change ≡ changeOut (x .numbers) (x .verdict)) × (r .catalogue ≡ x .catalogue) ⌝ }
+// What a keep answered, in numbers.
+pub fn keep_out(x: Kept) -> KeptOut
+    ensures { λ r. ⌜ r ≡ record { change = changeOut (x .numbers) (x .verdict); entry = x .entry; at = x .at; end = x .end } ⌝ }
 {
     let verdict = x.verdict;
-    let catalogue = x.catalogue;
-    Refiled {
+    let entry = x.entry;
+    KeptOut {
         change: change_out(x.numbers, verdict),
-        catalogue,
+        entry,
+        at: x.at,
+        end: x.end,
     }
 }
 
-pub fn refiled_change(r: Refiled) -> YkChange
+pub fn kept_change(r: KeptOut) -> YkChange
+    ensures { λ x. ⌜ x ≡ r .change ⌝ }
+{
+    let change = r.change;
+    change
+}
+
+// What a drop answered, in numbers.
+pub fn drop_out(x: Dropped) -> DroppedOut
+    ensures { λ r. ⌜ r ≡ record { change = changeOut (x .numbers) (x .verdict); over = x .over } ⌝ }
+{
+    let verdict = x.verdict;
+    DroppedOut {
+        change: change_out(x.numbers, verdict),
+        over: x.over,
+    }
+}
+
+pub fn dropped_change(r: DroppedOut) -> YkChange
     ensures { λ x. ⌜ x ≡ r .change ⌝ }
 {
     let change = r.change;
@@ -173,13 +202,12 @@ fn drop_marked_out(numbers: Numbers, answer: DropMarkedAnswer) -> YkDropMarked
 
 // What a drop by mark answered, in numbers.
 pub fn clear_out(x: Cleared) -> ClearedOut
-    ensures { λ r. ⌜ (r .answer ≡ dropMarkedOut (x .numbers) (x .answer)) × (r .catalogue ≡ x .catalogue) ⌝ }
+    ensures { λ r. ⌜ r ≡ record { answer = dropMarkedOut (x .numbers) (x .answer); over = x .over } ⌝ }
 {
     let answer = x.answer;
-    let catalogue = x.catalogue;
     ClearedOut {
         answer: drop_marked_out(x.numbers, answer),
-        catalogue,
+        over: x.over,
     }
 }
 

@@ -1,28 +1,34 @@
-// Each call with its answer in numbers: what C and Rust see, since no enum crosses to them. The catalogue comes by value or
-// as its length; `embed` lends it as a slice of entries. The index is one stretch: no extents, and no starts.
+// Each call with its answer in numbers: what C and Rust see, since no enum crosses to them. Of the catalogue comes what a call
+// needs to know, or its length; `embed` is lent it as a slice of entries. The index is one stretch: no extents, and no starts.
 ghost use mathlib.Core.Path.{_≡_};
 ghost use mathlib.Core.List.{List};
 ghost use Prim.Native.Nat.{ℕ, _+_, _≤_};
 ghost use lib.ListN.{length};
 ghost use Rattle.model.specs.declared.Entry.{Entry};
 ghost use Rattle.model.specs.Starts.{freshOf, openOf};
-ghost use Rattle.model.specs.Changes.{insertOf, deleteOf, updateOf};
-ghost use Rattle.model.specs.Files.{keepOf, dropOf, dropMarkedOf};
+ghost use Rattle.model.specs.Changes.{insertQuestions, presentQuestions, insertOf, deleteOf, updateOf};
+ghost use Rattle.model.specs.Files.{dropOf, dropMarkedOf};
 ghost use Rattle.model.specs.Audit.{auditOf};
-ghost use Rattle.catalogue.specs.Files.{byValue, writtenBack};
+ghost use Rattle.catalogue.specs.declared.Going.the-variants.{Of, Marked};
+ghost use Rattle.catalogue.specs.ByValue.{byValue};
+ghost use Rattle.catalogue.specs.Candidates.{usedIn, candidatesIn};
+ghost use Rattle.catalogue.specs.Entries.{placeFor, entryShifted, staysWhen, stayingOf, entriesClosed};
 ghost use Rattle.numbered.specs.Answers.{yesOut};
 ghost use Rattle.numbered.specs.Lent.{memoryOf, cleared, memoryLent, memoryLeft, storeLent};
-ghost use Rattle.numbered.specs.Crossed.{StartCrossed, AppendCrossed, PositionCrossed, TableCrossed, ViewCrossed, NetChangeCrossed, UnitsCrossed, DifferenceCrossed, FilesCrossed, DropMarkedCrossed, LengthsCrossed};
+ghost use Rattle.numbered.specs.Crossed.{ExactlyCrossed, AppendCrossed, PositionCrossed, TableCrossed, ViewCrossed, NetChangeCrossed, UnitsCrossed, DifferenceCrossed, KeepCrossed, DropMarkedCrossed, LengthsCrossed};
 use answer::Begun;
 use answer::ClearedOut;
-use answer::Refiled;
+use answer::DroppedOut;
+use answer::KeptOut;
 use answer::YkChange;
 use answer::YkDifference;
 use answer::YkNetChange;
 use answer::YkPosition;
 use answer::YkTable;
 use answer::YkUnits;
+use catalogue::Candidates;
 use catalogue::Catalogue;
+use catalogue::Staying;
 use model::Numbers;
 use needed::YkLengths;
 use outset::YkView;
@@ -48,7 +54,7 @@ pub fn fresh(
 ) -> Begun
     ensures few { λ r. ⌜ r .clears ≤ entries ⌝ }
     ensures kept { λ r. ⌜ ((index area : List ℕ) (catalogue : List Entry) → length catalogue ≡ entries → length area ≡ areas
-        → StartCrossed (r .change) (memoryOf (now (log .exit)) index (now (current .exit)) (cleared (r .clears) catalogue) area)
+        → ExactlyCrossed (r .change) (memoryOf (now (log .exit)) index (now (current .exit)) (cleared (r .clears) catalogue) area)
         (freshOf order page limit (memoryOf (now (log .entry)) index (now (current .entry)) catalogue area))) ⌝ }
 {
     answer::begin(opening::fresh(order, page, limit, log, current, entries, areas))
@@ -63,7 +69,7 @@ pub fn open(
 ) -> Begun
     ensures few { λ r. ⌜ r .clears ≤ entries ⌝ }
     ensures kept { λ r. ⌜ ((area : List ℕ) (catalogue : List Entry) → length catalogue ≡ entries → length area ≡ areas
-        → StartCrossed (r .change) (memoryLeft log index current (cleared (r .clears) catalogue) area)
+        → ExactlyCrossed (r .change) (memoryLeft log index current (cleared (r .clears) catalogue) area)
         (openOf (memoryLent log index current catalogue area))) ⌝ }
 {
     let none = [0u64; 1];
@@ -83,7 +89,7 @@ pub fn insert(
     count: u32,
 ) -> YkChange
     ensures { λ r. ⌜ ((catalogue : List Entry) (area : List ℕ) → length catalogue ≡ entries → length area ≡ areas
-        → AppendCrossed 1 r (storeLent s log index current catalogue area)
+        → AppendCrossed 1 r (storeLent s log index current catalogue area) (insertQuestions (storeLent s log index current catalogue area) t article)
         (memoryLeft log index current catalogue area)
         (insertOf (storeLent s log index current catalogue area) t article count)) ⌝ }
 {
@@ -117,7 +123,7 @@ pub fn delete(
     article: u32,
 ) -> YkChange
     ensures { λ r. ⌜ ((catalogue : List Entry) (area : List ℕ) → length catalogue ≡ entries → length area ≡ areas
-        → AppendCrossed 1 r (storeLent s log index current catalogue area)
+        → AppendCrossed 1 r (storeLent s log index current catalogue area) (presentQuestions (storeLent s log index current catalogue area) t article 1)
         (memoryLeft log index current catalogue area)
         (deleteOf (storeLent s log index current catalogue area) t article)) ⌝ }
 {
@@ -151,7 +157,7 @@ pub fn update(
     count: u32,
 ) -> YkChange
     ensures { λ r. ⌜ ((catalogue : List Entry) (area : List ℕ) → length catalogue ≡ entries → length area ≡ areas
-        → AppendCrossed 2 r (storeLent s log index current catalogue area)
+        → AppendCrossed 2 r (storeLent s log index current catalogue area) (presentQuestions (storeLent s log index current catalogue area) t article 2)
         (memoryLeft log index current catalogue area)
         (updateOf (storeLent s log index current catalogue area) t article count)) ⌝ }
 {
@@ -197,12 +203,12 @@ pub fn table<'a>(
     log: &[u8],
     index: &[u64],
     current: &'a [u8],
-    c: Catalogue,
+    c: Candidates,
     areas: &'a [u8],
     t: u64,
     out: &mut [u8],
 ) -> YkTable
-    ensures { λ r. ⌜ ((catalogue : List Entry) → c ≡ byValue catalogue
+    ensures { λ r. ⌜ ((catalogue : List Entry) → c ≡ candidatesIn s t catalogue
         → TableCrossed r (storeLent s log index current catalogue (now (areas .entry))) t
         (now (out .entry)) (now (out .exit))) ⌝ }
 {
@@ -217,11 +223,11 @@ pub fn view(
     log: &[u8],
     index: &[u64],
     current: &[u8],
-    c: Catalogue,
+    c: Candidates,
     areas: &[u8],
     t: u64,
 ) -> YkView
-    ensures { λ r. ⌜ ((catalogue : List Entry) → c ≡ byValue catalogue
+    ensures { λ r. ⌜ ((catalogue : List Entry) → c ≡ candidatesIn s t catalogue
         → ViewCrossed r (storeLent s log index current catalogue (now (areas .entry))) t) ⌝ }
 {
     let none = [0u64; 1];
@@ -235,14 +241,15 @@ pub fn net_change<'a>(
     log: &[u8],
     index: &[u64],
     current: &'a [u8],
-    c: Catalogue,
+    first: Candidates,
+    second: Candidates,
     areas: &'a [u8],
     a: u64,
     b: u64,
     out: &mut [u8],
     work: &mut [u8],
 ) -> YkNetChange
-    ensures { λ r. ⌜ ((catalogue : List Entry) → c ≡ byValue catalogue
+    ensures { λ r. ⌜ ((catalogue : List Entry) → first ≡ candidatesIn s a catalogue → second ≡ candidatesIn s b catalogue
         → NetChangeCrossed r (storeLent s log index current catalogue (now (areas .entry))) a b
         (now (out .entry)) (now (work .entry)) (now (out .exit)) (now (work .exit))) ⌝ }
 {
@@ -256,7 +263,8 @@ pub fn net_change<'a>(
         &none,
         words,
         current,
-        c,
+        first,
+        second,
         areas,
         a,
         b,
@@ -271,11 +279,11 @@ pub fn units<'a>(
     log: &[u8],
     index: &[u64],
     current: &'a [u8],
-    c: Catalogue,
+    c: Candidates,
     areas: &'a [u8],
     t: u64,
 ) -> YkUnits
-    ensures { λ r. ⌜ ((catalogue : List Entry) → c ≡ byValue catalogue
+    ensures { λ r. ⌜ ((catalogue : List Entry) → c ≡ candidatesIn s t catalogue
         → UnitsCrossed r (storeLent s log index current catalogue (now (areas .entry))) t) ⌝ }
 {
     let none = [0u64; 1];
@@ -289,17 +297,31 @@ pub fn units_between<'a>(
     log: &[u8],
     index: &[u64],
     current: &'a [u8],
-    c: Catalogue,
+    first: Candidates,
+    second: Candidates,
     areas: &'a [u8],
     a: u64,
     b: u64,
 ) -> YkDifference
-    ensures { λ r. ⌜ ((catalogue : List Entry) → c ≡ byValue catalogue
+    ensures { λ r. ⌜ ((catalogue : List Entry) → first ≡ candidatesIn s a catalogue → second ≡ candidatesIn s b catalogue
         → DifferenceCrossed r (storeLent s log index current catalogue (now (areas .entry))) a b) ⌝ }
 {
     let none = [0u64; 1];
     let words = index.len();
-    let r = units::between(s, log, index, 0, &none, words, current, c, areas, a, b);
+    let r = units::between(
+        s,
+        log,
+        index,
+        0,
+        &none,
+        words,
+        current,
+        first,
+        second,
+        areas,
+        a,
+        b,
+    );
     answer::difference_out(r)
 }
 
@@ -308,20 +330,36 @@ pub fn keep(
     log: &[u8],
     index: &[u64],
     current: &[u8],
-    c: Catalogue,
+    c: Candidates,
+    at: usize,
     areas: &mut [u8],
     t: u64,
     mark: u32,
-) -> Refiled
-    ensures { λ r. ⌜ ((catalogue : List Entry) → c ≡ byValue catalogue
-        → FilesCrossed (s .files + 1) (r .change) (storeLent s log index current catalogue (now (areas .entry)))
-        (memoryLeft log index current (writtenBack catalogue (r .catalogue)) (now (areas .exit)))
-        (keepOf (storeLent s log index current catalogue (now (areas .entry))) t mark)) ⌝ }
+) -> KeptOut
+    requires { ⌜ at ≤ s .files ⌝ }
+    ensures low { λ r. ⌜ r .at ≤ r .end ⌝ }
+    ensures high { λ r. ⌜ r .end ≤ c .lent ⌝ }
+    ensures kept { λ r. ⌜ ((catalogue : List Entry) → c ≡ candidatesIn s t catalogue → at ≡ placeFor t (usedIn s catalogue)
+        → KeepCrossed (r .change) (storeLent s log index current catalogue (now (areas .entry))) t mark
+        (memoryLeft log index current (entryShifted catalogue (r .at) (r .end) (r .entry)) (now (areas .exit)))) ⌝ }
 {
     let none = [0u64; 1];
     let words = index.len();
-    let r = filing::keep(s, log, index, 0, &none, words, current, c, areas, t, mark);
-    answer::refile(r)
+    let r = filing::keep(
+        s,
+        log,
+        index,
+        0,
+        &none,
+        words,
+        current,
+        c,
+        at,
+        areas,
+        t,
+        mark,
+    );
+    answer::keep_out(r)
 }
 
 pub fn drop(
@@ -329,16 +367,16 @@ pub fn drop(
     log: &[u8],
     index: &[u64],
     current: &[u8],
-    c: Catalogue,
+    x: Staying,
     areas: &mut [u8],
     t: u64,
-) -> Refiled
-    ensures { λ r. ⌜ ((catalogue : List Entry) → c ≡ byValue catalogue
-        → FilesCrossed (s .files) (r .change) (storeLent s log index current catalogue (now (areas .entry)))
-        (memoryLeft log index current (writtenBack catalogue (r .catalogue)) (now (areas .exit)))
+) -> DroppedOut
+    ensures few { λ r. ⌜ (r .over ≤ 16) × ((r .over ≤ x .lent) × (r .over ≤ s .files)) ⌝ }
+    ensures kept { λ r. ⌜ ((catalogue : List Entry) → x ≡ stayingOf (Of t) (usedIn s catalogue) (length catalogue)
+        → ExactlyCrossed (r .change) (memoryLeft log index current (entriesClosed (staysWhen (Of t)) (r .over) catalogue) (now (areas .exit)))
         (dropOf (storeLent s log index current catalogue (now (areas .entry))) t)) ⌝ }
 {
-    answer::refile(filing::drop(s, log, index.len(), current, c, areas, t))
+    answer::drop_out(filing::drop(s, log, index.len(), current, x, areas, t))
 }
 
 pub fn drop_marked(
@@ -346,16 +384,17 @@ pub fn drop_marked(
     log: &[u8],
     index: &[u64],
     current: &[u8],
-    c: Catalogue,
+    x: Staying,
     areas: &mut [u8],
     mark: u32,
 ) -> ClearedOut
-    ensures { λ r. ⌜ ((catalogue : List Entry) → c ≡ byValue catalogue
-        → DropMarkedCrossed (s .files) (r .answer) (storeLent s log index current catalogue (now (areas .entry)))
-        (memoryLeft log index current (writtenBack catalogue (r .catalogue)) (now (areas .exit)))
+    requires { ⌜ x .count ≤ s .files ⌝ }
+    ensures few { λ r. ⌜ (r .over ≤ 16) × ((r .over ≤ x .lent) × (r .over ≤ s .files)) ⌝ }
+    ensures kept { λ r. ⌜ ((catalogue : List Entry) → x ≡ stayingOf (Marked mark) (usedIn s catalogue) (length catalogue)
+        → DropMarkedCrossed (r .answer) (memoryLeft log index current (entriesClosed (staysWhen (Marked mark)) (r .over) catalogue) (now (areas .exit)))
         (dropMarkedOf (storeLent s log index current catalogue (now (areas .entry))) mark)) ⌝ }
 {
-    answer::clear_out(filing::drop_marked(s, log, index.len(), current, c, areas, mark))
+    answer::clear_out(filing::drop_marked(s, log, index.len(), current, x, areas, mark))
 }
 
 pub fn audit(

@@ -1,6 +1,5 @@
 // The answer of a view in numbers: the outset used, and the part of a lent region that its rows are.
 ghost use mathlib.Core.Path.{_≡_};
-ghost use Prim.Native.Nat.{min};
 ghost use Rattle.numbered.specs.Answers.{placeOut, areaOut, spanOf, viewOut};
 use super::answer::later_of;
 use answers::question;
@@ -47,15 +46,6 @@ fn area_out(place: Place) -> u32
     }
 }
 
-fn least(a: usize, b: usize) -> usize
-    ensures { λ r. ⌜ r ≡ min a b ⌝ }
-{
-    if a < b {
-        return a;
-    }
-    b
-}
-
 // The part that the rows of a held table are, cut where the bytes lent end.
 fn span_of(limit: u32, areas: usize, current: usize, place: Place, rows: u32) -> Span
     ensures { λ r. ⌜ r ≡ spanOf limit areas current place rows ⌝ }
@@ -70,12 +60,12 @@ fn span_of(limit: u32, areas: usize, current: usize, place: Place, rows: u32) ->
             let start = tables::area_start(limit, i, areas);
             Span {
                 start,
-                length: least(size, areas - start),
+                length: codec::least(size, areas - start),
             }
         }
         Place::Current => Span {
             start: 0,
-            length: least(size, current),
+            length: codec::least(size, current),
         },
     }
 }

@@ -7,11 +7,9 @@ ghost use Rattle.model.specs.Outset as outset;
 ghost use Rattle.tree.specs.Places.{stretchOf, Seen, stretchLent};
 ghost use Rattle.pages.specs.Paged.{Indexed, PositionIs};
 ghost use Rattle.outsets.specs.Used.{NearestIs};
-use catalogue::Catalogue;
 use model::Chosen;
 use model::Held;
 use model::Numbers;
-use model::Place;
 use model::Position;
 use model::Side;
 
@@ -55,7 +53,8 @@ fn position_of(
     pages::position(log, index, extent, starts, words, s, time)
 }
 
-// The outset used for t, whose position is `here`: the later candidate only where strictly fewer requests lie between.
+// Of two held tables the outset used for t, whose position is `here`: the later one only where strictly fewer requests lie
+// between.
 pub fn choose(
     log: &[u8],
     index: &[u64],
@@ -63,7 +62,8 @@ pub fn choose(
     starts: &[u64],
     words: usize,
     s: Numbers,
-    c: Catalogue,
+    early: Held,
+    late: Held,
     t: u64,
     here: Position,
 ) -> Used
@@ -71,16 +71,8 @@ pub fn choose(
     requires { ⌜ Seen (s .order) extent (now starts) words (length (now index)) ⌝ }
     requires { ⌜ 24 + 24 * s .records ≤ length (now log) ⌝ }
     requires { ⌜ PositionIs s t (now log) (stretchOf (s .order) extent (now starts) words (now index)) here ⌝ }
-    requires { ⌜ s .files ≤ 16 ⌝ }
-    ensures { λ r. ⌜ NearestIs s c t (now (log .entry)) (stretchLent (s .order) extent starts words index) r ⌝ }
+    ensures { λ r. ⌜ NearestIs s early late t (now (log .entry)) (stretchLent (s .order) extent starts words index) r ⌝ }
 {
-    let current = Held {
-        time: s.last,
-        place: Place::Current,
-        rows: s.live,
-    };
-    let early = catalogue::earlier(c, s.files as usize, t);
-    let late = catalogue::later(c, s.files as usize, t, current);
     let before = position_of(log, index, extent, starts, words, s, early.time, t, here);
     let after = position_of(log, index, extent, starts, words, s, late.time, t, here);
     let back = apart(here, before);

@@ -1,24 +1,29 @@
 -- The promises of position, table and view, from the answers to the questions and what the code says on any memory: one law
 -- for each return. Assumes nothing.
-use Prim.Native.Nat.{ℕ, _-_, _*_, _≤_, _<_}
-use mathlib.Core.Path.{_≡_, refl, ap}
-use mathlib.Core.List.{List}
+use Prim.Native.Nat.{ℕ, _-_, _*_, _≤_, _<_, min}
+use mathlib.Core.Path.{_≡_, refl, sym, ap, _∙_}
+use mathlib.Core.Logic.{_⊎_}
+use mathlib.Core.List.{List, [], _∷_}
 use mathlib.Core.Bool.{true, false}
+use native.Mathlib.Omega.{arith}
 use lib.ListN.{length, take}
+use lib.Dec.{leb}
 use borrow.Author.Tests.{le-leb, lt-leb}
 use borrow.Rule.Slice.PartMut.{putMid}
 use Rattle.model.specs.declared.Numbers.{Numbers}
 use Rattle.model.specs.declared.Position.{Position}
-use Rattle.model.specs.Answers.{refuses, answers, firstNo}
-use Rattle.model.specs.Memory.{State, sound}
+use Rattle.model.specs.Answers.{refuses, answers, question, firstNo, TableSaid, OutsetSaid}
+use Rattle.model.specs.Memory.{State, sound, standing}
 use Rattle.model.specs.Outset.{outsetFor}
-use Rattle.model.specs.Queries.{answeredTime, positionOf, tableOf, viewOf, rowsPart}
-use Rattle.model.specs.Promises.{isRefused, PositionPromise, TablePromise, ViewPromise}
+use Rattle.model.specs.Queries.{answeredTime, positionOf, tableQuestions, tableOf, viewOf, rowsPart}
+use Rattle.model.specs.Promises.{isRefused, IfAnswered, PositionPromise, TablePromise, ViewPromise}
 use Rattle.model.proofs.AuditLaws.{audited-facts}
-use Rattle.model.proofs.PromiseLaws.{query-refused, query-answered, not-refused, beyond-same}
+use Rattle.model.proofs.LateLaws.{answered-le}
+use Rattle.model.proofs.PromiseLaws.{unsound-refused, next-refused, none-refused, not-refused, beyond-same}
 use Rattle.pages.specs.Paged.{Indexed, PositionIs}
-use Rattle.catalogue.specs.declared.Catalogue.{Catalogue}
-use Rattle.catalogue.specs.Files.{Loaded}
+use Rattle.catalogue.specs.declared.Candidates.{Candidates}
+use Rattle.catalogue.specs.Candidates.{candidatesIn}
+use Rattle.catalogue.proofs.CandidateLaws.{candidates-answered}
 use Rattle.limits.specs.Fit.{Fit}
 use Rattle.outsets.specs.declared.Used.{Used}
 use Rattle.tables.specs.declared.Worked.{Worked}
@@ -26,7 +31,8 @@ use Rattle.tables.specs.Parts.{lent}
 use Rattle.outsets.specs.Used.{NearestIs}
 use Rattle.tables.specs.Ways.{Ready, WorkedOut}
 use Rattle.tables.proofs.LentFronts.{front-back, lent-beyond}
-use Rattle.tables.proofs.Chosen.{describes, position-of}
+use Rattle.tables.proofs.HeldParts.{candidate-whole}
+use Rattle.tables.proofs.Chosen.{Holds, position-of, chosen-of, chosen-holds}
 use Rattle.tables.proofs.Ways.{rows-part-lent}
 
 module _ (st : State) (t : ℕ) where
@@ -34,12 +40,20 @@ module _ (st : State) (t : ℕ) where
 
   pub position-header : sound st ≡ false → PositionPromise st t (refuses 1)
   unfolding positionOf firstNo
-  position-header q = record { asked = query-refused st 1 (rw q) refl refl; audited = λ a. rw q }
+  position-header q = record { asked = unsound-refused Position st [] q; audited = λ a. rw q }
 
   pub position-answers : (p : Position) (at : ℕ) → sound st ≡ true → at ≡ answeredTime (st .numbers .last) t
       → PositionIs (st .numbers) at (st .memory .log) (st .memory .index) p → PositionPromise st t (answers p)
   unfolding positionOf firstNo
-  position-answers p at q e is = record { asked = query-answered st p q; audited = λ a. rw (q, ← e) (ap answers (position-of st (audited-facts st a) is)) }
+  position-answers p at q e is =
+      record { asked = none-refused (standing st) p (rw q); audited = λ a. rw (q, ← e) (ap answers (position-of st (audited-facts st a) is)) }
+
+  -- ---- the candidates
+
+  -- those for the time asked for are those for the time answered
+  pub candidates-at : (c : Candidates) (at : ℕ) → at ≡ answeredTime (st .numbers .last) t → c ≡ candidatesIn (st .numbers) t (st .memory .catalogue)
+      → c ≡ candidatesIn (st .numbers) at (st .memory .catalogue)
+  candidates-at c at e is = is ∙ rw e (sym (candidates-answered (st .numbers) t (st .memory .catalogue)))
 
 -- ---- what question 1 tells
 
@@ -60,7 +74,6 @@ ready-of f h e =
     record {
       indexed = indexed-of f;
       limit-high = f .in-range .limit-high;
-      files-sixteen = f .files-sixteen;
       log-long = f .log-long;
       held = h;
       out-is = e;
@@ -70,28 +83,36 @@ ready-of f h e =
 
 module _ (st : State) (t : ℕ) (out : List ℕ) where
   pub table-header : sound st ≡ false → TablePromise st t out (refuses 1) out
-  unfolding tableOf firstNo isRefused
-  table-header q = record { asked = query-refused st 1 (rw q) refl refl; refused = λ e. refl; framed = beyond-same _ out; audited = λ a. rw q }
+  unfolding tableOf firstNo isRefused IfAnswered
+  table-header q =
+      record { asked = unsound-refused TableSaid st (question 13 (leb (8 * st .numbers .limit) (length out)) ∷ []) q; refused = λ e. refl; rows-few = tt; framed = beyond-same _ out; audited = λ a. rw q }
 
   pub table-short : sound st ≡ true → length out < 8 * st .numbers .limit → TablePromise st t out (refuses 13) out
-  unfolding tableOf firstNo isRefused
+  unfolding tableOf firstNo isRefused IfAnswered
   table-short q g =
-      record { asked = query-refused st 13 (rw q) refl refl; refused = λ e. refl; framed = beyond-same _ out; audited = λ a. rw (q, lt-leb _ _ g) }
+      record {
+        asked = next-refused TableSaid st 13 _ [] q (lt-leb _ _ g);
+        refused = λ e. refl;
+        rows-few = tt;
+        framed = beyond-same _ out;
+        audited = λ a. rw (q, lt-leb _ _ g);
+      }
 
   -- the part lent, of 8 × R bytes, came back as the bytes ys
-  pub table-answers : (c : Catalogue) (w : Worked) (at : ℕ) {ys : List ℕ} → sound st ≡ true → at ≡ answeredTime (st .numbers .last) t → 8 * st .numbers .limit ≤ length out → length ys ≡ 8 * st .numbers .limit
-      → Loaded (st .memory .catalogue) (st .numbers .files) c
+  pub table-answers : (c : Candidates) (w : Worked) (at : ℕ) {ys : List ℕ} → sound st ≡ true → at ≡ answeredTime (st .numbers .last) t → 8 * st .numbers .limit ≤ length out → length ys ≡ 8 * st .numbers .limit
+      → c ≡ candidatesIn (st .numbers) t (st .memory .catalogue) → w .rows ≤ st .numbers .limit
       → WorkedOut (st .numbers) (st .memory .log) (st .memory .index) (st .memory .table) (st .memory .areas) c at w ys
       → TablePromise st t out (answers (record { rows = w .rows; side = w .side; between = w .between })) (putMid 0 (8 * st .numbers .limit - 0) out ys)
-  unfolding tableOf firstNo isRefused
-  table-answers c w at {ys} q e room l has worked =
+  unfolding tableOf firstNo isRefused IfAnswered
+  table-answers c w at {ys} q e room l has few worked =
       let size = 8 * st .numbers .limit in
       record {
-        asked = query-answered st _ q;
+        asked = none-refused (tableQuestions st out) _ (rw (q, le-leb _ _ room));
         refused = λ no. not-refused no;
+        rows-few = few;
         framed = lent-beyond size out ys room l;
         audited = λ a.
-            let is = worked .on (st .memory .catalogue) has a in
+            let is = worked .on (st .memory .catalogue) (candidates-at st t c at e has) a in
             rw (← e, front-back size out ys l, q, le-leb _ _ room, is .0, is .1);
       }
 
@@ -99,19 +120,29 @@ module _ (st : State) (t : ℕ) (out : List ℕ) where
 
 module _ (st : State) (t : ℕ) where
   pub view-header : sound st ≡ false → ViewPromise st t (refuses 1) (take 0 (st .memory .table))
-  unfolding viewOf firstNo
-  view-header q = record { asked = query-refused st 1 (rw q) refl refl; audited = λ a. rw q }
+  unfolding viewOf firstNo IfAnswered
+  view-header q = record { asked = unsound-refused OutsetSaid st [] q; rows-few = tt; rows-whole = tt; audited = λ a. rw q }
 
-  pub view-answers : (c : Catalogue) (u : Used) (at : ℕ) → sound st ≡ true → at ≡ answeredTime (st .numbers .last) t → Loaded (st .memory .catalogue) (st .numbers .files) c
-      → NearestIs (st .numbers) c at (st .memory .log) (st .memory .index) u
-      → let h = u .chosen .outset in ViewPromise st t (answers (record { place = h .place; rows = h .rows; side = u .chosen .side; between = u .chosen .between }))
-      (rowsPart (st .numbers .limit) (lent (st .memory .areas) (st .memory .table)) (h .place) (h .rows))
-  unfolding viewOf firstNo
-  view-answers c u at q e has near =
+  -- the rows of the outset used, cut to the limit
+  pub view-answers : (c : Candidates) (u : Used) (at rows : ℕ) → sound st ≡ true → at ≡ answeredTime (st .numbers .last) t → c ≡ candidatesIn (st .numbers) t (st .memory .catalogue)
+      → 8 * st .numbers .limit ≤ length (st .memory .table) → 8 * st .numbers .limit * st .numbers .files ≤ length (st .memory .areas)
+      → NearestIs (st .numbers) (c .early) (c .late) at (st .memory .log) (st .memory .index) u → rows ≡ min (u .chosen .outset .rows) (st .numbers .limit)
+      → let h = u .chosen .outset in ViewPromise st t (answers (record { place = h .place; rows = rows; side = u .chosen .side; between = u .chosen .between }))
+      (rowsPart (st .numbers .limit) (lent (st .memory .areas) (st .memory .table)) (h .place) rows)
+  unfolding viewOf firstNo IfAnswered
+  view-answers c u at rows q e has long-table long-areas near cut =
+      let s = st .numbers in
+      let h = u .chosen .outset in
+      let one : (h ≡ candidatesIn s t (st .memory .catalogue) .early) ⊎ (h ≡ candidatesIn s t (st .memory .catalogue) .late) = rw has at (near .one-of) in
       record {
-        asked = query-answered st _ q;
+        asked = none-refused (standing st) _ (rw q);
+        rows-few = omega arith;
+        rows-whole = rw cut (candidate-whole s (st .memory .areas) (st .memory .table) long-table long-areas t (st .memory .catalogue) h one);
         audited = λ a.
             let f = audited-facts st a in
-            let is : u .chosen ≡ outsetFor st at = near .chosen-is (st .memory .catalogue) (describes st f c has) in
-            rw (← e, q, rows-part-lent (st .numbers .limit) (st .memory) (u .chosen .outset .place) (u .chosen .outset .rows), is);
+            let held : at ≤ s .last = omega (arith, e, answered-le (s .last) t) in
+            let is : u .chosen ≡ outsetFor st at = chosen-of st f at c u held (candidates-at st t c at e has) near in
+            let holds : Holds st h = rw is (chosen-holds st f at held) in
+            let all : rows ≡ h .rows = omega (arith, holds .rows-few) in
+            rw (← e, q, all, rows-part-lent (s .limit) (st .memory) (h .place) (h .rows), is);
       }

@@ -1,7 +1,7 @@
 -- On audited memory: the index holds the packed tree of the log, and every held table, so also the outset chosen, is the
 -- table of its time. Assumes nothing.
 use Prim.Native.Nat.{ℕ, suc, _*_, _≤_, zero-le}
-use mathlib.Core.Path.{_≡_, sym, ap, _∙_}
+use mathlib.Core.Path.{_≡_, refl, sym, ap, _∙_}
 use mathlib.Core.Logic.{_⊎_, inl, inr}
 use mathlib.Core.List.{List, [], _∷_, _++_, List·Memᴰ, List·Memᴰ·not-nil, List·Memᴰ·cases-cons, List·Memᴰ·append-cases, List·Memᴰ·eq-of-singleton}
 use native.Mathlib.Omega.{arith}
@@ -32,11 +32,15 @@ use Rattle.model.proofs.PageLaws.{length-page-times}
 use Rattle.model.proofs.RecordLaws.{length-records}
 use Rattle.tree.proofs.Written.{with-packed}
 use Rattle.rows.proofs.TableBytes.{table-bytes-rows}
-use Rattle.catalogue.specs.declared.Catalogue.{Catalogue}
-use Rattle.catalogue.specs.Files.{Loaded}
+use Rattle.catalogue.specs.declared.Candidates.{Candidates}
+use Rattle.catalogue.specs.Candidates.{candidatesIn}
+use Rattle.catalogue.proofs.CandidateLaws.{used-all}
+use Rattle.limits.proofs.FitLaws.{capacity-sixteen}
+use Rattle.model.proofs.LateLaws.{answered-held}
 use Rattle.model.proofs.NearestLaws.{latest-before, earliest-after, chosen-held}
 use Rattle.pages.specs.Paged.{PositionIs}
-use Rattle.outsets.specs.Used.{Describes}
+use Rattle.outsets.specs.declared.Used.{Used}
+use Rattle.outsets.specs.Used.{Describes, NearestIs}
 use Rattle.tables.specs.Ways.{OnSide}
 
 -- a held table lies where it is said to, as the rows of the log's table of its time
@@ -59,8 +63,8 @@ module _ (st : State) (f : AuditedFacts st) where
       let keys = length-page-times (s .page) (omega (arith, f .limits .page-low)) (logOf st) in
       rw (f .index-is) at (with-packed (s .order) (f .limits .order-low) (keysOf st) (st .memory .index) (rw (keys, n) (f .limits .index-long)))
 
-  pub describes : (c : Catalogue) → Loaded (st .memory .catalogue) (st .numbers .files) c → Describes (st .numbers) c (st .memory .log) (st .memory .index) (st .memory .catalogue)
-  describes c has = record { log-legal = f .log-legal; packed = index-packed; loaded = has }
+  describes : Describes (st .numbers) (st .memory .log) (st .memory .index)
+  describes = record { log-legal = f .log-legal; packed = index-packed }
 
   pub position-of : {t : ℕ} {p : Position} → PositionIs (st .numbers) t (st .memory .log) (st .memory .index) p → p ≡ positionAt st t
   position-of h = h .position-is (st .numbers .limit) (f .log-legal) index-packed
@@ -116,6 +120,17 @@ module _ (st : State) (f : AuditedFacts st) where
       by (inr n) = by-place (List·Memᴰ·append-cases (filesHeld st) n)
 
 -- ---- the outset chosen
+
+-- between the two candidates for t, a time up to the last, the one that the store's outset is
+pub chosen-of : (st : State) (f : AuditedFacts st) (t : ℕ) (c : Candidates) (u : Used) → t ≤ st .numbers .last
+    → c ≡ candidatesIn (st .numbers) t (st .memory .catalogue) → NearestIs (st .numbers) (c .early) (c .late) t (st .memory .log) (st .memory .index) u
+    → u .chosen ≡ outsetFor st t
+chosen-of st f t c u h is near =
+    let s = st .numbers in
+    let es = st .memory .catalogue in
+    let sixteen : s .files ≤ 16 = capacity-sixteen (s .limit) (length es) (length (st .memory .areas)) (s .files) (f .limits .files-few) in
+    let both : (c .early ≡ earlierFor st t) × (c .late ≡ laterFor st t) = rw (is, answered-held (s .last) t h, used-all s es sixteen) (refl, refl) in
+    rw (← both .0, ← both .1) (near .chosen-is (describes st f))
 
 pub chosen-holds : (st : State) (f : AuditedFacts st) (t : ℕ) → t ≤ st .numbers .last → Holds st (outsetFor st t .outset)
 chosen-holds st f t h =

@@ -1,4 +1,5 @@
 pub mod LentFronts
+pub mod HeldParts
 pub mod Chosen
 pub mod Ways
 pub mod Answers

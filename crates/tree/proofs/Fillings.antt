@@ -11,7 +11,6 @@ use Rattle.model.specs.Tree.{indexWords, nodesOf, withTree, Packed}
 use Rattle.tree.specs.Append.{appendOf}
 use Rattle.tree.specs.Places.{withTreeAt}
 use Rattle.tree.proofs.Rooms.{placed}
-use Rattle.tree.proofs.WrittenAt.{framed-past}
 use Rattle.tree.proofs.FillingsAt as at
 
 pub packed-none : (at : ℕ → ℕ) (d : ℕ) (xs : List ℕ) → 2 ≤ d → Packed at d [] xs
@@ -28,17 +27,6 @@ drop-more a b xs ys h e =
     rw (← n, ← drop-drop (b - a) a xs, ← drop-drop (b - a) a ys, e)
 
 module _ (d : ℕ) (two : 2 ≤ d) where
-  -- of the same length, and with the same words from e on
-  pub record Inside (e : ℕ) (xs ys : List ℕ) : Type 0 where
-    pub long : length ys ≡ length xs
-    pub past : drop e ys ≡ drop e xs
-
-  -- whatever the index holds, only nodes that the keys take are written
-  pub append-keeps : (k x : ℕ) (xs : List ℕ) → indexWords d (k + 1) ≤ length xs → Inside (indexWords d (k + 1)) xs (appendOf (nodeWord d) d k x xs)
-  append-keeps k x xs room =
-      let f = at.append-keeps (nodeWord d) d two k x xs (placed d (nodesOf d (k + 1)) (length xs) room) in
-      record { long = f .same-length; past = framed-past d (nodesOf d (k + 1)) xs (appendOf (nodeWord d) d k x xs) f }
-
   -- one key more in an index into which the keys were written
   pub append-over : (keys : List ℕ) (x : ℕ) (index xs : List ℕ) → indexWords d (length keys + 1) ≤ length xs → index ≡ withTree d keys xs
       → appendOf (nodeWord d) d (length keys) x index ≡ withTree d (keys ++ (x ∷ [])) xs

@@ -21,6 +21,7 @@ pub mod Rooms
 pub mod Appends
 pub mod FillingsAt
 pub mod Fillings
+pub mod AppendFrames
 pub mod Gatherings
 pub mod Stretches
 pub mod Cases

@@ -3,7 +3,7 @@
 // address of a node, and everything else goes from node number to node number.
 ghost use mathlib.Core.Path.{_≡_};
 ghost use mathlib.Core.List.{_∷_, [], _++_};
-ghost use Prim.Native.Nat.{_+_, _-_, _*_, _%_, _≤_, _<_, min};
+ghost use Prim.Native.Nat.{_+_, _-_, _*_, _%_, _≤_, _<_};
 ghost use lib.ListN.{length, drop};
 ghost use Rattle.model.specs.Shape.{cofactor, valuation, padded};
 ghost use Rattle.model.specs.Numbering.{leafNode, nodeWord};
@@ -21,16 +21,6 @@ pub struct Stripped {
 
 // ---- numbers of nodes
 
-// The lesser of two numbers.
-pub fn at_most(x: u32, y: u32) -> u32
-    ensures { λ r. ⌜ r ≡ min x y ⌝ }
-{
-    if x <= y {
-        return x;
-    }
-    y
-}
-
 // The inner nodes that the leaves up to m opened, level by level.
 fn inners_up_to(d: u32, m: u32) -> u32
     requires { ⌜ 2 ≤ d ⌝ }
@@ -42,7 +32,7 @@ fn inners_up_to(d: u32, m: u32) -> u32
     let mut sum: u32 = 0;
     let mut left = m;
     while 0 < left {
-        sum += left / d + at_most(left % d, 1);
+        sum += left / d + codec::least32(left % d, 1);
         left = left / d;
     }
     sum

@@ -9,16 +9,18 @@ use lib.ListN.{getD, replicate}
 use lib.IntN.{negsuc}
 use Rattle.model.specs.declared.Side.the-variants.{Earlier}
 use Rattle.model.specs.declared.Place.the-variants.{Area}
-use Rattle.model.specs.Answers.{Outcome, answers, refuses, refusesAt, question}
+use Rattle.model.specs.Answers.{Outcome, answers, refuses, refusesAt, question, firstNo}
 use Rattle.model.specs.Records.{noRecord}
 use Rattle.model.specs.Rows.{Row, row}
 use Rattle.model.specs.Timeslice.{InReport}
-use Rattle.model.specs.Memory.{State, state}
+use Rattle.model.specs.Memory.{State, state, standing}
 use Rattle.model.specs.Queries.{positionOf}
-use Rattle.model.specs.Files.{filesOf, isKept, keepOf, dropOf, dropMarkedOf}
-use Rattle.model.specs.Promises.{isRefused, refusedAmong, Asked, QueryAsked}
+use Rattle.model.specs.Files.{filesOf, isKept, keepQuestions, keepOf, dropOf, dropMarkedOf}
+use Rattle.model.specs.Changes.{insertQuestions, insertOf}
+use Rattle.model.specs.Promises.{isRefused, FirstNoRefuses, refusedAmong, byOneOf, AppendAsked}
 use Rattle.model.specs.Calls.{Call, run, changed, positioned, written, viewed, netted, totalled, differed, cleared, audited, answerOf}
 use Rattle.model.specs.Demands.{marksAt, heldNext, heldAfter, HeldWith}
+use Rattle.model.proofs.HeldFiles.{kept-iff-held}
 use Rattle.worked.proofs.Computing.{computing}
 use Rattle.worked.proofs.WorkedLog.{workedRecords, worked, located, table20, table45, change20to45, told, changes, seen}
 use Rattle.worked.proofs.WorkedStore.{kept20}
@@ -98,13 +100,13 @@ unfolding computing
 marks-say = refl
 
 -- as demand 3 has it: a file with mark 0 is held, and where no mark is due no file
-held-for-good : HeldWith 20 (filesOf (run worked again)) (0 ∷ [])
+held-for-good : HeldWith 20 (run worked again) (0 ∷ [])
 unfolding computing
-held-for-good = record { marks = refl; kept = refl }
+held-for-good = record { marks = refl; kept = refl; outset = kept-iff-held (run worked again) 20 }
 
-held-no-more : HeldWith 40 (filesOf (run worked again)) []
+held-no-more : HeldWith 40 (run worked again) []
 unfolding computing
-held-no-more = record { marks = refl; kept = refl }
+held-no-more = record { marks = refl; kept = refl; outset = kept-iff-held (run worked again) 40 }
 
 -- a refused drop ends nothing, a refused keep begins nothing, and another time's calls neither
 held-next : (heldNext 20 (5 ∷ []) worked (Call.drop 20) ∷ heldNext 61 [] worked (Call.keep 61 5) ∷ heldNext 20 (5 ∷ []) kept20 (Call.drop 20)
@@ -137,28 +139,29 @@ refused-among : (among (answers tt) ∷ among (refuses 1) ∷ among (refuses 12)
 unfolding computing
 refused-among = refl
 
+-- by one of the questions of an insertion, whatever they come to; a record number is told by none of them
+own : map (λ (o : Outcome Unit). byOneOf (insertQuestions worked 61 7) o) (answers tt ∷ refuses 1 ∷ refuses 7 ∷ refuses 11 ∷ refuses 8 ∷ refuses 12 ∷ refusesAt 7 0 ∷ [])
+    ≡ true ∷ true ∷ true ∷ true ∷ false ∷ false ∷ false ∷ []
+unfolding computing
+own = refl
+
 -- question 1 answered no; none, for a time after the last and for the last
-asked-unsound : QueryAsked unsound (positionOf unsound 11)
+asked-unsound : FirstNoRefuses (standing unsound) (positionOf unsound 11) × (firstNo (standing unsound) ≡ 1)
 unfolding computing
-asked-unsound = record { asked = record { standing-first = refl; never-17 = refl }; never-12 = refl }
+asked-unsound = (refl, refl)
 
-asked-late : QueryAsked worked (positionOf worked 61)
+asked-late : FirstNoRefuses (standing worked) (positionOf worked 61) × (firstNo (standing worked) ≡ 0)
 unfolding computing
-asked-late = record { asked = record { standing-first = refl; never-17 = refl }; never-12 = refl }
+asked-late = (refl, refl)
 
-asked-in-time : QueryAsked worked (positionOf worked 60)
+-- a keep, which may be refused by 12; an insertion, which is not
+asked-keep : FirstNoRefuses (keepQuestions worked 61 5) (keepOf worked 61 5 .outcome) × (firstNo (keepQuestions worked 61 5) ≡ 12)
 unfolding computing
-asked-in-time = record { asked = record { standing-first = refl; never-17 = refl }; never-12 = refl }
+asked-keep = (refl, refl)
 
--- a keep, which may be refused by 12
-asked-keep : Asked worked (keepOf worked 61 5 .outcome)
+asked-insert : AppendAsked worked (insertQuestions worked 61 7) (insertOf worked 61 7 5 .outcome)
 unfolding computing
-asked-keep = record { standing-first = refl; never-17 = refl }
-
--- a drop by mark, which may be refused by 18
-asked-drop-marked : Asked worked (dropMarkedOf worked 0 .outcome)
-unfolding computing
-asked-drop-marked = record { standing-first = refl; never-17 = refl }
+asked-insert = record { standing-first = refl; own = refl }
 
 -- ---- the report's set
 

@@ -1,6 +1,7 @@
 -- `answers::number` meets its contract: each arm gives the numbers of its refusal. Assumes nothing.
 use Rattle.model.specs.Answers.{refusal}
-use Rattle.answers.specs.Question.{questionOf, recordIn}
+use Rattle.model.specs.Promises.{refusedNumber}
+use Rattle.answers.specs.Question.{recordIn}
 use borrow.Author.Needs.{needs}
 use Rattle.answers.proofs.number.Statement.{statement}
 use Rattle.answers.proofs.number.Tie as tie
@@ -60,75 +61,75 @@ enum-known-why : tie.Need-enum-known-why
 enum-known-why c = search needs
 
 returns : tie.Need-returns
-unfolding questionOf recordIn refusal
+unfolding refusedNumber recordIn refusal
 returns c = (rw (c .enum-told .given .1), rw (c .enum-told .given .1))
 
 returns-2 : tie.Need-returns-2
-unfolding questionOf recordIn refusal
+unfolding refusedNumber recordIn refusal
 returns-2 c = (rw (c .enum-told2 .given .1), rw (c .enum-told2 .given .1))
 
 returns-3 : tie.Need-returns-3
-unfolding questionOf recordIn refusal
+unfolding refusedNumber recordIn refusal
 returns-3 c = (rw (c .enum-told3 .given .1), rw (c .enum-told3 .given .1))
 
 returns-4 : tie.Need-returns-4
-unfolding questionOf recordIn refusal
+unfolding refusedNumber recordIn refusal
 returns-4 c = (rw (c .enum-told4 .given .1), rw (c .enum-told4 .given .1))
 
 returns-5 : tie.Need-returns-5
-unfolding questionOf recordIn refusal
+unfolding refusedNumber recordIn refusal
 returns-5 c = (rw (c .enum-told5 .given .1), rw (c .enum-told5 .given .1))
 
 returns-6 : tie.Need-returns-6
-unfolding questionOf recordIn refusal
+unfolding refusedNumber recordIn refusal
 returns-6 c = (rw (c .enum-told6 .given .1), rw (c .enum-told6 .given .1))
 
 returns-7 : tie.Need-returns-7
-unfolding questionOf recordIn refusal
+unfolding refusedNumber recordIn refusal
 returns-7 c = (rw (c .enum-told7 .given .1), rw (c .enum-told7 .given .1))
 
 returns-8 : tie.Need-returns-8
-unfolding questionOf recordIn refusal
+unfolding refusedNumber recordIn refusal
 returns-8 c = (rw (c .enum-told8 .given .1), rw (c .enum-told8 .given .1))
 
 returns-9 : tie.Need-returns-9
-unfolding questionOf recordIn refusal
+unfolding refusedNumber recordIn refusal
 returns-9 c = (rw (c .enum-told9 .given .1), rw (c .enum-told9 .given .1))
 
 returns-10 : tie.Need-returns-10
-unfolding questionOf recordIn refusal
+unfolding refusedNumber recordIn refusal
 returns-10 c = (rw (c .enum-told10 .given .1), rw (c .enum-told10 .given .1))
 
 returns-11 : tie.Need-returns-11
-unfolding questionOf recordIn refusal
+unfolding refusedNumber recordIn refusal
 returns-11 c = (rw (c .enum-told11 .given .1), rw (c .enum-told11 .given .1))
 
 returns-12 : tie.Need-returns-12
-unfolding questionOf recordIn refusal
+unfolding refusedNumber recordIn refusal
 returns-12 c = (rw (c .enum-told12 .given .1), rw (c .enum-told12 .given .1))
 
 returns-13 : tie.Need-returns-13
-unfolding questionOf recordIn refusal
+unfolding refusedNumber recordIn refusal
 returns-13 c = (rw (c .enum-told13 .given .1), rw (c .enum-told13 .given .1))
 
 returns-14 : tie.Need-returns-14
-unfolding questionOf recordIn refusal
+unfolding refusedNumber recordIn refusal
 returns-14 c = (rw (c .enum-told14 .given .1), rw (c .enum-told14 .given .1))
 
 returns-15 : tie.Need-returns-15
-unfolding questionOf recordIn refusal
+unfolding refusedNumber recordIn refusal
 returns-15 c = (rw (c .enum-told15 .given .1), rw (c .enum-told15 .given .1))
 
 returns-16 : tie.Need-returns-16
-unfolding questionOf recordIn refusal
+unfolding refusedNumber recordIn refusal
 returns-16 c = (rw (c .enum-told16 .given .1), rw (c .enum-told16 .given .1))
 
 returns-17 : tie.Need-returns-17
-unfolding questionOf recordIn refusal
+unfolding refusedNumber recordIn refusal
 returns-17 c = (rw (c .before .why .given .1), rw (c .before .why .given .1))
 
 returns-18 : tie.Need-returns-18
-unfolding questionOf recordIn refusal
+unfolding refusedNumber recordIn refusal
 returns-18 c = (rw (c .enum-told17 .given .1), rw (c .enum-told17 .given .1))
 
 pub number-spec : {M : Type 1} → statement M

@@ -1,6 +1,6 @@
 -- `areas::join_area` meets its contract: an area that is where it goes is not moved. Assumes nothing.
 use Prim.Native.Nat.{_*_, _≤_}
-use mathlib.Core.Path.{sym, _∙_}
+use mathlib.Core.Path.{sym}
 use native.Mathlib.Omega.{arith}
 use native.Mathlib.Nat.{mul-le-mul-right}
 use borrow.Author.Needs.{needs}
@@ -8,11 +8,8 @@ use Rattle.areas.proofs.Moves.{moved-nowhere}
 use Rattle.areas.proofs.join_area.Statement.{statement}
 use Rattle.areas.proofs.join_area.Tie as tie
 
-stays-requires : tie.Need-stays-requires
-stays-requires c κs = search needs
-
 returns : tie.Need-returns
-returns c = let gone = sym (c .before .stays .ensures) ∙ c .if1 .left in (rw gone, rw gone)
+returns c = let gone = c .if1 .left in (rw gone, rw gone)
 
 add-result : tie.Need-add-result
 add-result c = search needs
@@ -20,13 +17,13 @@ add-result c = search needs
 returns-2 : tie.Need-returns-2
 returns-2 c =
     let k = c .before in
-    let a = k .before .before .before .args in
-    let stay = sym (k .before .stays .ensures) ∙ k .if1 .taken in
+    let a = k .before .before .args in
+    let stay = k .if1 .taken in
     (rw (stay, c .if2 .taken) (sym (moved-nowhere (a .areas .now) (a .size * a .j) (a .size))), rw stay)
 
 mul-move-down : tie.Need-mul-move-down
 mul-move-down c =
-    let a = c .before .before .before .before .before .args in
+    let a = c .before .before .before .before .args in
     let low : a .j * a .size ≤ a .i * a .size = mul-le-mul-right (a .size) (omega arith) in
     omega arith
 
@@ -35,7 +32,7 @@ mul-move-down-2 c = search needs
 
 move-down-requires : tie.Need-move-down-requires
 move-down-requires c κs =
-    let a = c .before .before .before .before .before .args in
+    let a = c .before .before .before .before .args in
     let low : a .j * a .size ≤ a .i * a .size = mul-le-mul-right (a .size) (omega arith) in
     (omega arith, omega arith)
 
@@ -49,14 +46,13 @@ returns-3 : tie.Need-returns-3
 returns-3 c =
     let down = c .before .before in
     let k = down .before .before .before in
-    let stay = sym (k .before .stays .ensures) ∙ k .if1 .taken in
+    let stay = k .if1 .taken in
     (rw stay (down .move-down .ensures), rw stay)
 
 pub join-area-spec : {M : Type 1} → statement M
 join-area-spec =
     tie.close
     (tie.spec
-    stays-requires
     returns
     add-result
     returns-2

@@ -13,8 +13,7 @@ use Rattle.model.specs.Queries.{answeredTime}
 use Rattle.model.specs.Promises.{storeOf}
 use Rattle.tree.specs.Places.{stretchOf}
 use Rattle.tree.proofs.Stretches.{stretch-length}
-use Rattle.catalogue.specs.declared.Catalogue.{Catalogue}
-use Rattle.catalogue.proofs.EntryLaws.{loaded-by-value}
+use Rattle.catalogue.specs.declared.Candidates.{Candidates}
 use Rattle.tables.proofs.Answers.{ready-of}
 use Rattle.comparing.proofs.Answers.{net-header, net-output-short, net-workspace-short, net-answers}
 use borrow.Author.Needs.{needs}
@@ -35,11 +34,11 @@ is-sound-requires c κs = search needs
 
 returns : tie.Need-returns
 unfolding netChangeOutcome refusal
-returns c catalogue e =
+returns c catalogue e f =
     let c1 = c in
     let start = c1 .before .before .before .before .before .before .before .before .before in
     let x = start .args in
-    net-header (storeOf (x .s) (x .log .now) (stretch start) (x .current .now) catalogue (x .areas .now)) (x .a) (x .b) (x .out .now) (x .work .now) (rw (← ap (λ (y : Catalogue). y .lent) e, long start) (sym (c1 .before .is-sound .ensures .0) ∙ c1 .if1 .left))
+    net-header (storeOf (x .s) (x .log .now) (stretch start) (x .current .now) catalogue (x .areas .now)) (x .a) (x .b) (x .out .now) (x .work .now) (rw (← ap (λ (y : Candidates). y .lent) e, long start) (sym (c1 .before .is-sound .ensures .0) ∙ c1 .if1 .left))
 
 cast-size : tie.Need-cast-size
 cast-size c = search needs
@@ -49,11 +48,11 @@ mul-size c = search needs
 
 returns-2 : tie.Need-returns-2
 unfolding netChangeOutcome refusal
-returns-2 c catalogue e =
+returns-2 c catalogue e f =
     let c1 = c .before .before in
     let start = c1 .before .before .before .before .before .before .before .before .before in
     let x = start .args in
-    net-output-short (storeOf (x .s) (x .log .now) (stretch start) (x .current .now) catalogue (x .areas .now)) (x .a) (x .b) (x .out .now) (x .work .now) (rw (← ap (λ (y : Catalogue). y .lent) e, long start) (sym (c1 .before .is-sound .ensures .0) ∙ c1 .if1 .taken)) (omega (arith, c .if2 .taken))
+    net-output-short (storeOf (x .s) (x .log .now) (stretch start) (x .current .now) catalogue (x .areas .now)) (x .a) (x .b) (x .out .now) (x .work .now) (rw (← ap (λ (y : Candidates). y .lent) e, long start) (sym (c1 .before .is-sound .ensures .0) ∙ c1 .if1 .taken)) (omega (arith, c .if2 .taken))
 
 cast-space : tie.Need-cast-space
 cast-space c = search needs
@@ -63,12 +62,12 @@ mul-space c = search needs
 
 returns-3 : tie.Need-returns-3
 unfolding netChangeOutcome refusal
-returns-3 c catalogue e =
+returns-3 c catalogue e f =
     let c2 = c .before .before in
     let c1 = c2 .before .before in
     let start = c1 .before .before .before .before .before .before .before .before .before in
     let x = start .args in
-    net-workspace-short (storeOf (x .s) (x .log .now) (stretch start) (x .current .now) catalogue (x .areas .now)) (x .a) (x .b) (x .out .now) (x .work .now) (rw (← ap (λ (y : Catalogue). y .lent) e, long start) (sym (c1 .before .is-sound .ensures .0) ∙ c1 .if1 .taken)) (omega (arith, c2 .if2 .left)) (omega (arith, c .if3 .taken))
+    net-workspace-short (storeOf (x .s) (x .log .now) (stretch start) (x .current .now) catalogue (x .areas .now)) (x .a) (x .b) (x .out .now) (x .work .now) (rw (← ap (λ (y : Candidates). y .lent) e, long start) (sym (c1 .before .is-sound .ensures .0) ∙ c1 .if1 .taken)) (omega (arith, c2 .if2 .left)) (omega (arith, c .if3 .taken))
 
 answered-time-requires : tie.Need-answered-time-requires
 answered-time-requires c κs = search needs
@@ -114,8 +113,8 @@ part-merge-both-end c = search needs
 merge-both-requires : tie.Need-merge-both-requires
 merge-both-requires c κs = search needs
 
-cast-t35 : tie.Need-cast-t35
-cast-t35 c =
+cast-t36 : tie.Need-cast-t36
+cast-t36 c =
     let k = c .before .before in
     let w = k .before .before .before .before .before in
     let c2 = w .before .before .before .before .before .before in
@@ -134,7 +133,7 @@ same-length-2 c = search needs
 
 returns-4 : tie.Need-returns-4
 unfolding netChangeOutcome refusal AreBytes
-returns-4 c catalogue e =
+returns-4 c catalogue e f =
     let k = c .before .before in
     let w = k .before .before .before .before .before in
     let second = w .before .before in
@@ -147,16 +146,15 @@ returns-4 c catalogue e =
     let start = bytes .before in
     let x = start .args in
     let R = x .s .limit in
-    let fine = q .is-sound .ensures .1 (c1 .if1 .taken) in
-    let lent = ap (λ (y : Catalogue). y .lent) e in
     let known : AreBytes (x .log .now) = λ i. omega (arith, bytes .shared-slice-known .given i) in
     let size : length (take (24 * R - 0) (x .out .now)) ≡ 24 * R = length-take-le (24 * R - 0) (x .out .now) (omega (arith, c2 .if2 .left)) ∙ sub-zero (24 * R) in
     let space : length (take (16 * R - 0) (x .work .now)) ≡ 16 * R = length-take-le (16 * R - 0) (x .work .now) (omega (arith, c3 .if3 .left)) ∙ sub-zero (16 * R) in
-    net-answers (storeOf (x .s) (x .log .now) (stretch start) (x .current .now) catalogue (x .areas .now)) (x .a) (x .b) (x .out .now) (x .work .now) (x .c) (w .work-out-both .result) (k .merge-both .result) (first .answered-time .result) (second .answered-time2 .result) _ _
+    net-answers (storeOf (x .s) (x .log .now) (stretch start) (x .current .now) catalogue (x .areas .now)) (x .a) (x .b) (x .out .now) (x .work .now) (x .first) (x .second) (w .work-out-both .result) (k .merge-both .result) (first .answered-time .result) (second .answered-time2 .result) _ _
     (first .answered-time .ensures) (second .answered-time2 .ensures)
-    (w .work-out-both .kept .1 .1 .1 .1 .1 .1 .1 .1 .1 .1 .1 .0 ∙ space) (k .merge-both .kept .1 .1 .1 .0 ∙ size) known
-    (loaded-by-value catalogue e (x .s .files) (fine .files-sixteen) (rw lent at (fine .files-lent))) (w .work-out-both .ensures .1) (k .merge-both .ensures .1)
-    (rw (← ap (λ (y : Catalogue). y .lent) e, long start) (sym (q .is-sound .ensures .0) ∙ c1 .if1 .taken)) (omega (arith, c2 .if2 .left)) (omega (arith, c3 .if3 .left))
+    (w .work-out-both .kept .1 .1 .1 .1 .1 .1 .1 .1 .1 .1 .1 .1 .0 ∙ space) (k .merge-both .kept .1 .1 .1 .0 ∙ size) known
+    e f (w .work-out-both .ensures .1) (k .merge-both .ensures .1)
+    (rw (← ap (λ (y : Candidates). y .lent) e, long start) (sym (q .is-sound .ensures .0) ∙ c1 .if1 .taken)) (omega (arith, c2 .if2 .left)) (omega (arith, c3 .if3 .left))
+    (omega (arith, k .merge-both .ensures .0, size))
 
 pub net-change-spec : {M : Type 1} → statement M
 net-change-spec =
@@ -180,7 +178,7 @@ net-change-spec =
     part-merge-both-start
     part-merge-both-end
     merge-both-requires
-    cast-t35
+    cast-t36
     same-length
     same-length-2
     returns-4)

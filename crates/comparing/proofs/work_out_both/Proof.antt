@@ -67,7 +67,7 @@ returns c =
     let second = second-half size (x .work .now) (w1 .work-out .last .1 .1 .1 .1 .1 .1 .1 .1 .1 .1 .0) (omega arith) ly in
     let lz = w2 .work-out2 .kept .1 .1 .1 .1 .1 .1 .1 .1 .1 .1 .0 ∙ second in (
       (omega (arith, w1 .work-out .ensures .0, first), omega (arith, w2 .work-out2 .ensures .0, second)),
-      both-worked-out (x .s) (x .log .now) (stretchOf (x .s .order) (x .extent) (x .starts .now) (x .words) (x .index .now)) (x .current .now) (x .areas .now) (x .c) (x .a) (x .b) (w1 .work-out .result) (w2 .work-out2 .result) (x .work .now)
+      both-worked-out (x .s) (x .log .now) (stretchOf (x .s .order) (x .extent) (x .starts .now) (x .words) (x .index .now)) (x .current .now) (x .areas .now) (x .first) (x .second) (x .a) (x .b) (w1 .work-out .result) (w2 .work-out2 .result) (x .work .now)
           l ly lz (w1 .work-out .ensures .1) (w2 .work-out2 .ensures .1),
     )
 

@@ -13,7 +13,7 @@ use borrow.Fn.PlainCycle.{Measures, is, falls, and}
 use Rattle.descent.proofs.descend.Reads as descend
 use Rattle.descent.proofs.descend.Kinds as descend-kinds
 use Rattle.descent.proofs.+descend.Lts-descend as descend-lts
-use Rattle.tree.proofs.at_most.Reads as at-most-reads
+use Rattle.codec.proofs.least32.Reads as least32-reads
 use Rattle.descent.proofs.child_node.Reads as child-node-reads
 use Rattle.descent.proofs.in_leaf.Reads as in-leaf-reads
 use Rattle.descent.proofs.in_node.Reads as in-node-reads
@@ -39,8 +39,8 @@ claims t = (
   in-node-reads.Learnt,
   child-node-reads.Asked,
   child-node-reads.Learnt,
-  at-most-reads.Asked,
-  at-most-reads.Learnt,
+  least32-reads.Asked,
+  least32-reads.Learnt,
   unit-below-reads.Asked,
   unit-below-reads.Learnt,
   descend-below t,
@@ -74,13 +74,13 @@ module _ (t : ℕ) where
       let n = c .before in
       omega (arith, child-inside (down n) (n .in-node .ensures .upto))
 
-  sub-at-most : descend-lts.Need-sub-at-most (claims t) (descend-at t) descend.Post
-  sub-at-most c =
+  sub-least32 : descend-lts.Need-sub-least32 (claims t) (descend-at t) descend.Post
+  sub-least32 c =
       let n = c .before in
       omega (arith, child-inside (down n) (n .in-node .ensures .upto))
 
-  at-most-requires : descend-lts.Need-at-most-requires (claims t) (descend-at t) descend.Post
-  at-most-requires c κs = search needs
+  least32-requires : descend-lts.Need-least32-requires (claims t) (descend-at t) descend.Post
+  least32-requires c κs = search needs
 
   unit-below-requires : descend-lts.Need-unit-below-requires (claims t) (descend-at t) descend.Post
   unit-below-requires c κs =
@@ -102,12 +102,12 @@ module _ (t : ℕ) where
   descend-requires c κs =
       let n = c .before .before .before in
       let child = down-child (down n) (n .in-node .ensures .upto) (c .before .before .child-node .ensures) (c .unit-below .ensures) in
-      (omega arith, rw (c .before .at-most .ensures) child)
+      (omega arith, rw (c .before .least32 .ensures) child)
 
   returns-2 : descend-lts.Need-returns-2 (claims t) (descend-at t) descend.Post
   returns-2 c =
       let n = c .before .before .before .before in
-      let child = rw (c .before .before .at-most .ensures) at (c .descend .ensures) in
+      let child = rw (c .before .before .least32 .ensures) at (c .descend .ensures) in
       found-child (down n) _ (n .in-node .ensures) child
 
 pub +descend-spec : {M : Type 1} → statement M
@@ -119,8 +119,8 @@ pub +descend-spec : {M : Type 1} → statement M
     (in-node-requires t)
     (child-node-requires t)
     (mul-past t)
-    (sub-at-most t)
-    (at-most-requires t)
+    (sub-least32 t)
+    (least32-requires t)
     (unit-below-requires t)
     (sub-descend t)
     (sub-descend-2 t)

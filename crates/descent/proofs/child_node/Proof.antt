@@ -10,8 +10,8 @@ mul-t4 c = search needs
 add-t5 : tie.Need-add-t5
 add-t5 c = search needs
 
-at-most-requires : tie.Need-at-most-requires
-at-most-requires c κs = search needs
+least32-requires : tie.Need-least32-requires
+least32-requires c κs = search needs
 
 add-t7 : tie.Need-add-t7
 add-t7 c = search needs
@@ -20,4 +20,4 @@ returns : tie.Need-returns
 returns c = omega arith
 
 pub child-node-spec : {M : Type 1} → statement M
-child-node-spec = tie.close (tie.spec mul-t4 add-t5 at-most-requires add-t7 returns)
+child-node-spec = tie.close (tie.spec mul-t4 add-t5 least32-requires add-t7 returns)

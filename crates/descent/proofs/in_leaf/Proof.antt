@@ -12,14 +12,14 @@ sub-before c = search needs
 mul-before : tie.Need-mul-before
 mul-before c = search needs
 
-sub-at-most : tie.Need-sub-at-most
-sub-at-most c = search needs
+sub-least32 : tie.Need-sub-least32
+sub-least32 c = search needs
 
-sub-at-most-2 : tie.Need-sub-at-most-2
-sub-at-most-2 c = search needs
+sub-least32-2 : tie.Need-sub-least32-2
+sub-least32-2 c = search needs
 
-at-most-requires : tie.Need-at-most-requires
-at-most-requires c κs = search needs
+least32-requires : tie.Need-least32-requires
+least32-requires c κs = search needs
 
 node-word-requires : tie.Need-node-word-requires
 node-word-requires c κs =
@@ -32,7 +32,7 @@ cast-cut c = search needs
 cut-requires : tie.Need-cut-requires
 cut-requires c κs =
     let g = c .before .before .before .before in
-    omega (arith, g .pre .reach .inside, c .node-word .ensures .0, c .before .at-most .ensures)
+    omega (arith, g .pre .reach .inside, c .node-word .ensures .0, c .before .least32 .ensures)
 
 cast-result : tie.Need-cast-result
 cast-result c = search needs
@@ -42,7 +42,7 @@ add-result c = search needs
 
 returns : tie.Need-returns
 returns c =
-    let used = c .before .before .at-most .ensures in
+    let used = c .before .before .least32 .ensures in
     let word = c .before .node-word .ensures .0 in
     found-leaf (c .before .before .before .before .before .pre) _ (rw (← used, ← word) (c .cut .ensures))
 
@@ -52,9 +52,9 @@ in-leaf-spec =
     (tie.spec
     sub-before
     mul-before
-    sub-at-most
-    sub-at-most-2
-    at-most-requires
+    sub-least32
+    sub-least32-2
+    least32-requires
     node-word-requires
     cast-cut
     cut-requires

@@ -34,7 +34,7 @@ use Rattle.numbered.proofs.audit as inner
 use Rattle.numbered.proofs.audit.Symbol as inner-def
 use Rattle.numbered.proofs.audit.Symbol.{name as #numbered·audit}
 use Rattle.numbered.proofs.audit.Met as inner-thm
-use Rattle.embed.proofs.Shells.{Laws, numbers, read, shell}
+use Rattle.entries.proofs.Shells.{Laws, numbers, read, shell}
 use Rattle.embed.proofs.yk_audit.Key.{name as #embed·yk-audit}
 use Rattle.embed.proofs.yk_audit as f
 use Rattle.embed.proofs.yk_audit.Statement as stated

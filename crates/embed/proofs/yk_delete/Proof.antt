@@ -37,7 +37,7 @@ use Rattle.numbered.proofs.delete as inner
 use Rattle.numbered.proofs.delete.Symbol as inner-def
 use Rattle.numbered.proofs.delete.Symbol.{name as #numbered·delete}
 use Rattle.numbered.proofs.delete.Met as inner-thm
-use Rattle.embed.proofs.Shells.{Laws, number, numbers, read, written, shell}
+use Rattle.entries.proofs.Shells.{Laws, number, numbers, read, written, shell}
 use Rattle.embed.proofs.yk_delete.Key.{name as #embed·yk-delete}
 use Rattle.embed.proofs.yk_delete as f
 use Rattle.embed.proofs.yk_delete.Statement as stated

@@ -2,7 +2,7 @@
 use contract.Running.{givenOf, tables, tablesOf}
 use denote.Triple.Spec.{tripleOf}
 use denote.Triple.Table.{entered, cited}
-use Rattle.model.specs.Changes.{insertOf}
+use Rattle.model.specs.Changes.{insertQuestions, insertOf}
 use Rattle.numbered.specs.Crossed.{AppendCrossed}
 use Rattle.entries.proofs.count as count
 use Rattle.entries.proofs.count.Symbol as count-def
@@ -21,7 +21,7 @@ unfolding code.routine tablesOf
 yk-insert-spec 𝓤 H 𝓜 𝓖 𝓡 =
     entered 𝓤 H (tripleOf 𝓤 H (𝓖 .A) f.signature (f.spec 𝓤 H (𝓖 .A) (𝓜 .mem) (𝓡 .run)))
     (tables 𝓤 H 𝓜 𝓡 code.env .C) (tables 𝓤 H 𝓜 𝓡 code.env .Λ) key.name code.function (code.unfolded 𝓤 H 𝓜 𝓡)
-    (meets 𝓤 H (𝓖 .A) (𝓜 .mem) (𝓡 .run) (λ st t article count r memory. AppendCrossed 1 r st memory (insertOf st t article count))
+    (meets 𝓤 H (𝓖 .A) (𝓜 .mem) (𝓡 .run) (λ st t article count r memory. AppendCrossed 1 r st (insertQuestions st t article) memory (insertOf st t article count))
     (givenOf 𝓤 H 𝓜 𝓖) (tablesOf 𝓤 H 𝓜 (tables 𝓤 H 𝓜 𝓡 code.env))
     (cited 𝓤 H (tripleOf 𝓤 H (𝓖 .A) count.signature (count.spec 𝓤 H (𝓖 .A) (𝓜 .mem) (𝓡 .run))) 𝓜 𝓡 code.env count-def.name count-def.routine
     code.calls-entries·count (count-thm.met 𝓤 H 𝓜 𝓖 𝓡)) inner-def.name

@@ -37,7 +37,7 @@ use Rattle.numbered.proofs.position as inner
 use Rattle.numbered.proofs.position.Symbol as inner-def
 use Rattle.numbered.proofs.position.Symbol.{name as #numbered·position}
 use Rattle.numbered.proofs.position.Met as inner-thm
-use Rattle.embed.proofs.Shells.{Laws, numbers, read, number, shell}
+use Rattle.entries.proofs.Shells.{Laws, numbers, read, number, shell}
 use Rattle.embed.proofs.yk_position.Key.{name as #embed·yk-position}
 use Rattle.embed.proofs.yk_position as f
 use Rattle.embed.proofs.yk_position.Statement as stated

@@ -7,21 +7,25 @@ use Rattle.numbered.proofs.drop.Tie as tie
 drop-requires : tie.Need-drop-requires
 drop-requires c κs = search needs
 
-refile-requires : tie.Need-refile-requires
-refile-requires c κs = search needs
+drop-out-requires : tie.Need-drop-out-requires
+drop-out-requires c κs = search needs
 
 same-length : tie.Need-same-length
 same-length c = search needs
 
 returns : tie.Need-returns
-returns c catalogue e =
+returns c =
     let p = c .before .before .before in
-    record {
-      numbers = p .drop .result .numbers;
-      verdict = p .drop .result .verdict;
-      is = c .refile .ensures .0;
-      kept = rw (c .refile .ensures .1) (p .drop .ensures _ refl catalogue e);
-    }
+    let d = p .drop .ensures _ refl in
+    rw (c .drop-out .ensures) (
+      (d .few, (d .lent, d .told)),
+      λ catalogue e. record {
+        numbers = p .drop .result .numbers;
+        verdict = p .drop .result .verdict;
+        is = refl;
+        kept = d .is catalogue e;
+      },
+    )
 
 pub drop-spec : {M : Type 1} → statement M
-drop-spec = tie.close (tie.spec drop-requires refile-requires same-length returns)
+drop-spec = tie.close (tie.spec drop-requires drop-out-requires same-length returns)

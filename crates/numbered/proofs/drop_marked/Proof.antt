@@ -14,14 +14,18 @@ same-length : tie.Need-same-length
 same-length c = search needs
 
 returns : tie.Need-returns
-returns c catalogue e =
+returns c =
     let p = c .before .before .before in
-    record {
-      numbers = p .drop-marked .result .numbers;
-      answer = p .drop-marked .result .answer;
-      is = c .clear-out .ensures .0;
-      kept = rw (c .clear-out .ensures .1) (p .drop-marked .ensures _ refl catalogue e);
-    }
+    let d = p .drop-marked .ensures _ refl in
+    rw (c .clear-out .ensures) (
+      (d .few, (d .lent, d .told)),
+      λ catalogue e. record {
+        numbers = p .drop-marked .result .numbers;
+        answer = p .drop-marked .result .answer;
+        is = refl;
+        kept = d .is catalogue e;
+      },
+    )
 
 pub drop-marked-spec : {M : Type 1} → statement M
 drop-marked-spec = tie.close (tie.spec drop-marked-requires clear-out-requires same-length returns)

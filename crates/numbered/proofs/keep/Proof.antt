@@ -1,4 +1,5 @@
 -- `numbered::keep` meets its contract. Assumes nothing.
+use mathlib.Core.Path.{refl}
 use Rattle.tree.specs.Places.{stretchOf}
 use Rattle.tree.proofs.Stretches.{seen-stretch}
 use borrow.Author.Needs.{needs}
@@ -9,24 +10,31 @@ slice-aggregate-keep : tie.Need-slice-aggregate-keep
 slice-aggregate-keep c = search needs
 
 keep-requires : tie.Need-keep-requires
-keep-requires c κs = seen-stretch _ _ _
+keep-requires c κs = (seen-stretch _ _ _, search needs)
 
-refile-requires : tie.Need-refile-requires
-refile-requires c κs = search needs
+keep-out-requires : tie.Need-keep-out-requires
+keep-out-requires c κs = search needs
 
 same-length : tie.Need-same-length
 same-length c = search needs
 
 returns : tie.Need-returns
 unfolding stretchOf
-returns c catalogue e =
+returns c =
     let p = c .before .before .before in
-    record {
-      numbers = p .keep .result .numbers;
-      verdict = p .keep .result .verdict;
-      is = c .refile .ensures .0;
-      kept = rw (c .refile .ensures .1) (p .keep .ensures catalogue e);
-    }
+    let k = p .keep .ensures in
+    rw (c .keep-out .ensures) (
+      k .low,
+      (
+        k .high,
+        λ catalogue e place. record {
+          numbers = p .keep .result .numbers;
+          verdict = p .keep .result .verdict;
+          is = refl;
+          kept = k .promised catalogue e place;
+        },
+      ),
+    )
 
 pub keep-spec : {M : Type 1} → statement M
-keep-spec = tie.close (tie.spec slice-aggregate-keep keep-requires refile-requires same-length returns)
+keep-spec = tie.close (tie.spec slice-aggregate-keep keep-requires keep-out-requires same-length returns)

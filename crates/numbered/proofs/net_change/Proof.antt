@@ -22,11 +22,11 @@ same-length-2 c = search needs
 
 returns : tie.Need-returns
 unfolding stretchOf
-returns c catalogue e =
+returns c catalogue e f =
     record {
       answer = c .before .before .before .before .before .net-change .result;
       is = c .net-change-out .ensures;
-      kept = c .before .before .before .before .before .net-change .ensures catalogue e;
+      kept = c .before .before .before .before .before .net-change .ensures catalogue e f;
     }
 
 pub net-change-spec : {M : Type 1} → statement M

@@ -18,7 +18,7 @@ difference-out-requires c κs = search needs
 
 returns : tie.Need-returns
 unfolding stretchOf
-returns c catalogue e = record { answer = c .before .between .result; is = c .difference-out .ensures; kept = c .before .between .ensures catalogue e }
+returns c catalogue e f = record { answer = c .before .between .result; is = c .difference-out .ensures; kept = c .before .between .ensures catalogue e f }
 
 pub units-between-spec : {M : Type 1} → statement M
 units-between-spec = tie.close (tie.spec slice-aggregate-between between-requires difference-out-requires returns)

@@ -22,23 +22,23 @@ loop-holds c = search needs
 div-sum : tie.Need-div-sum Inv-loop μ-loop
 div-sum c = search needs
 
-rem-at-most : tie.Need-rem-at-most Inv-loop μ-loop
-rem-at-most c = search needs
+rem-least32 : tie.Need-rem-least32 Inv-loop μ-loop
+rem-least32 c = search needs
 
-at-most-requires : tie.Need-at-most-requires Inv-loop μ-loop
-at-most-requires c κs = search needs
+least32-requires : tie.Need-least32-requires Inv-loop μ-loop
+least32-requires c κs = search needs
 
 add-sum : tie.Need-add-sum Inv-loop μ-loop
 add-sum c =
     let a = c .before .before .before .args in
     let lp = c .before .before .loop in
-    omega (arith, inners-level (a .d) (omega arith) (lp .left), inners-le (a .d) (omega arith) (a .m), c .at-most .ensures)
+    omega (arith, inners-level (a .d) (omega arith) (lp .left), inners-le (a .d) (omega arith) (a .m), c .least32 .ensures)
 
 add-sum-2 : tie.Need-add-sum-2 Inv-loop μ-loop
 add-sum-2 c =
     let a = c .before .before .before .args in
     let lp = c .before .before .loop in
-    omega (arith, inners-level (a .d) (omega arith) (lp .left), inners-le (a .d) (omega arith) (a .m), c .at-most .ensures)
+    omega (arith, inners-level (a .d) (omega arith) (lp .left), inners-le (a .d) (omega arith) (a .m), c .least32 .ensures)
 
 div-left : tie.Need-div-left Inv-loop μ-loop
 div-left c = search needs
@@ -50,7 +50,7 @@ loop-again : tie.Need-loop-again Inv-loop μ-loop
 loop-again c =
     let a = c .before .before .before .args in
     let lp = c .before .before .loop in
-    (omega (arith, div-le-self (lp .left) (a .d)), omega (arith, inners-level (a .d) (omega arith) (lp .left), c .at-most .ensures))
+    (omega (arith, div-le-self (lp .left) (a .d)), omega (arith, inners-level (a .d) (omega arith) (lp .left), c .least32 .ensures))
 
 returns : tie.Need-returns Inv-loop μ-loop
 returns c =
@@ -66,8 +66,8 @@ inners-up-to-spec =
     μ-loop
     loop-holds
     div-sum
-    rem-at-most
-    at-most-requires
+    rem-least32
+    least32-requires
     add-sum
     add-sum-2
     div-left

@@ -22,7 +22,7 @@ next-separator-requires c κs =
     let g = c .before .before .before .before .before .before in
     let a = g .args in
     let q = c .before .before .before .strip in
-    (g .pre .0, (g .pre .1, (q .ensures .0, (omega (arith, q .ensures .0, cofactor-pos (a .d) (a .m) (g .pre .0 .order-low) (g .pre .1)), q .ensures .1))))
+    (g .pre .0, (g .pre .1, (q .ensures .0, (omega (arith, q .ensures .0, cofactor-pos (a .d) (a .m) (g .pre .0 .order-low) (g .pre .1)), omega (arith, q .ensures .1)))))
 
 same-length-2 : tie.Need-same-length-2
 same-length-2 c = search needs

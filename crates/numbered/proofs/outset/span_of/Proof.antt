@@ -3,7 +3,7 @@ use Rattle.numbered.specs.Answers.{spanOf}
 use borrow.Author.Needs.{needs}
 use Rattle.numbered.proofs.outset.span_of.Statement.{statement}
 use Rattle.numbered.proofs.outset.span_of.Tie as tie
-use Rattle.numbered.proofs.outset.least.Reads as least-reads
+use Rattle.codec.proofs.least.Reads as least-reads
 use Rattle.tables.proofs.area_start.Reads as area-start-reads
 
 mul-size : tie.Need-mul-size
