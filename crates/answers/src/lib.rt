@@ -1,4 +1,6 @@
 // A refusal as 01's numbers, for programs and for callers in other languages.
+#![tactic(auto)]
+
 ghost use Rattle.std.specs.Prelude.{◌≡◌};
 ghost use Rattle.answers.specs.Question.{number_of, record_of};
 

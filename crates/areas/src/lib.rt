@@ -1,5 +1,7 @@
 // The areas of the count files (01, "Count files"): "Keeping shifts the later files up; dropping shifts them down and zeroes
 // the last used entry and area", and a marked deletion "closing up the rest in order" (02, wish 3).
+#![tactic(auto)]
+
 ghost use Rattle.std.specs.Prelude.{◌≡◌, List, cond, ◌+◌, ◌*◌, ◌≤◌, ◌<◌, length};
 ghost use Rattle.model.specs.declared.Entry.{Entry};
 ghost use Rattle.catalogue.specs.declared.Going.{Going};

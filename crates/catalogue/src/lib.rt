@@ -1,6 +1,8 @@
 // The catalogue of count files (01, "Count files"): its capacity, and what each of its entries comes to: which held tables are
 // nearest to a time, where a file of a time goes, which files stay. The lent slice of entries is gone along by the crate
 // `entries`; here is what it does with each.
+#![tactic(auto)]
+
 ghost use Rattle.std.specs.Prelude.{◌≡◌, ◌&&◌, cond, ◌+◌, ◌*◌, ◌≤◌, ◌<◌, min, get_or, leb, ltb, eqb};
 ghost use Rattle.model.specs.declared.Place.TheVariants.{Empty, Area, Current};
 ghost use Rattle.model.specs.Marks as marks;

@@ -1,5 +1,7 @@
 // Little-endian numbers in byte slices, and the moves of bytes that every layer above uses; the smaller of two numbers.
 // Each function does what one definition of specs/ says, on any bytes; none knows what the bytes mean.
+#![tactic(auto)]
+
 ghost use Rattle.std.specs.Prelude.{◌≡◌, ◌+◌, ◌-◌, ◌≤◌, ◌<◌, min, length};
 ghost use Rattle.codec.specs.LittleEndian.{number, bytes};
 ghost use Rattle.codec.specs.Parts.{zeros, put, moved_up, moved_down, same};

@@ -1,5 +1,7 @@
 // The net change between two times (01, "Count files"). All of the store is lent to be read alone; both tables are worked
 // out into the workspace and then merged.
+#![tactic(auto)]
+
 ghost use Rattle.std.specs.Prelude.{◌≡◌, List, ◌*◌, ◌≤◌, length};
 ghost use Rattle.codec.specs.Parts.{part};
 ghost use Rattle.model.specs.declared.Entry.{Entry};

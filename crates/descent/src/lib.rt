@@ -1,5 +1,7 @@
 // The search in the packed tree (01, "Packed tree"): how many keys are at most a time, found by a recursive descent from
 // node number to node number, the remaining level falling at each call.
+#![tactic(auto)]
+
 ghost use Rattle.std.specs.Prelude.{◌≡◌, ◌+◌, ◌-◌, ◌*◌, ◌/◌, ◌≤◌, ◌<◌, ◌^◌, length};
 ghost use Rattle.tree.specs.Places.{place_of, Reached};
 ghost use Rattle.tree.specs.Levels.{inners_over, Room};

@@ -1,6 +1,8 @@
 // How C and Rust call the store (include/yokefennel.h). Each exported function is lent the catalogue as a slice of entries and
 // is a shell: it asks of the entries what the call needs to know, makes the call of `numbered`, and changes the entries by what
 // that answers.
+#![tactic(auto)]
+
 ghost use Rattle.std.specs.Prelude.{◌≡◌, List, ℕ, ◌+◌, ◌*◌};
 ghost use Rattle.model.specs.Starts.{fresh_of, open_of};
 ghost use Rattle.model.specs.Changes.{insert_questions, present_questions, insert_of, delete_of, update_of};

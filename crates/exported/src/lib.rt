@@ -1,1 +1,2 @@
 // Theorems only: see specs/ and proofs/.
+#![tactic(auto)]

@@ -1,6 +1,8 @@
 // Keep and drop a count file (01, "Count files", "The questions, in order"), and drop by mark (02, wish 3). What they need to know
 // of the catalogue comes by value, and they answer what is to be done to its entries; the areas are written where they lie. A
 // refused call gives the numbers back as they were, and nothing is to be done.
+#![tactic(auto)]
+
 ghost use Rattle.std.specs.Prelude.{◌≡◌, List, ℕ, ◌+◌, ◌*◌, ◌≤◌, ◌<◌, length};
 ghost use Rattle.model.specs.declared.Entry.{Entry};
 ghost use Rattle.model.specs.declared.Verdict.TheVariants as verdict;

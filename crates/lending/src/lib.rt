@@ -1,5 +1,7 @@
 // How long each lent region must be for a maker's settings, records and count files (01, "The questions, in order": "Lengths are
 // the least that suffice"). What the lengths are worth stands in specs/Enough.
+#![tactic(auto)]
+
 ghost use Rattle.std.specs.Prelude.{◌≡◌, ◌≤◌};
 ghost use Rattle.model.specs.Settings.{SettingsFit};
 ghost use Rattle.lending.specs.Lengths.{lengths_for, lengths_of, lengths_outcome};

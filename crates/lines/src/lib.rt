@@ -1,5 +1,7 @@
 // The text of the listing (01, "One log by hand"; 02, wish 1), gathered in a buffer. Each function puts its text behind the
 // first `at` bytes of the buffer, which stay as they are, and answers how many bytes are in use then.
+#![tactic(auto)]
+
 ghost use Rattle.std.specs.Prelude.{◌≡◌, ◌+◌, ◌≤◌, length};
 ghost use Rattle.lines.specs.Text.{numeral, side_text, line_text, named_text, units_text, refused_text};
 ghost use Rattle.lines.specs.Gathered.{Gathered};

@@ -1,4 +1,6 @@
 // The types that 01 names. What they mean, and every promise made of them, stands in specs/.
+#![tactic(auto)]
+
 ghost use Rattle.std.specs.Prelude.{◌≡◌};
 ghost use Rattle.model.specs.Answers.{checked_outcome};
 ghost use Rattle.model.specs.Settings.{settings_of};

@@ -3,6 +3,8 @@
 //   entry: offset 0, 2 bytes: length 12    offset 2, 2 bytes: kind (2 insertion, 3 deletion)
 //          offset 4, 4 bytes: article      offset 8, 4 bytes: count
 // On bytes that are no ascending rows the merge still ends and stays within the output.
+#![tactic(auto)]
+
 ghost use Rattle.std.specs.Prelude.{◌≡◌, ◌++◌, ◌+◌, ◌*◌, ◌/◌, ◌≤◌, ◌<◌, length};
 ghost use Rattle.codec.specs.Parts.{put};
 ghost use Rattle.model.specs.NetChange.{change_bytes};

@@ -1,5 +1,7 @@
 // Each call with its answer in numbers: what C and Rust see, since no enum crosses to them. Of the catalogue comes what a call
 // needs to know, or its length; `embed` is lent it as a slice of entries. The index is one stretch: no extents, and no starts.
+#![tactic(auto)]
+
 ghost use Rattle.std.specs.Prelude.{◌≡◌, List, ℕ, ◌+◌, ◌≤◌, length};
 ghost use Rattle.model.specs.declared.Entry.{Entry};
 ghost use Rattle.model.specs.Starts.{fresh_of, open_of};

@@ -1,5 +1,7 @@
 // The outset used for a time (01, "Count files"): the nearest held table at or before it, or the nearest at or after it where
 // fewer requests lie between.
+#![tactic(auto)]
+
 ghost use Rattle.std.specs.Prelude.{◌+◌, ◌*◌, ◌≤◌, ◌≡◌, length};
 ghost use Rattle.model.specs.Outset as outset;
 ghost use Rattle.tree.specs.Places.{stretch_of, Seen, stretch_lent};

@@ -1,6 +1,8 @@
 // What the listing program does (01, "One log by hand"; 02, wish 1): it reads a log from standard input and prints a line for each
 // different request time: the time, its page position, E or L for the earlier or later outset, and the rows of its table; and as
 // the last line the units of the last table.
+#![tactic(auto)]
+
 mod input;
 mod output;
 

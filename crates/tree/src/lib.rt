@@ -1,6 +1,8 @@
 // The packed tree of order d over page times (01, "Packed tree"): one key more, the words that it takes, and its
 // nodes cleared. A node's place is computed and never stored: `leaf_node` numbers a leaf, `node_word` is the one
 // address of a node, and everything else goes from node number to node number.
+#![tactic(auto)]
+
 ghost use Rattle.std.specs.Prelude.{◌≡◌, ◌∷◌, [], ◌++◌, ◌+◌, ◌-◌, ◌*◌, ◌%◌, ◌≤◌, ◌<◌, length, drop};
 ghost use Rattle.model.specs.Shape.{cofactor, valuation, padded};
 ghost use Rattle.model.specs.Numbering.{leaf_node, node_word};

@@ -1,5 +1,7 @@
 // Whether an index holds the packed tree over the page times of a log (01, "Packed tree"), word by word: node after node
 // in the order of allocation, each word compared with the time of the record it stands for. No key list is made.
+#![tactic(auto)]
+
 ghost use Rattle.std.specs.Prelude.{◌≡◌, ◌+◌, ◌-◌, ◌*◌, ◌≤◌, ◌<◌, cond, length, ltb};
 ghost use Rattle.codec.specs.Parts.{same};
 ghost use Rattle.model.specs.Records.{records};

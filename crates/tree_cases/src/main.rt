@@ -1,6 +1,8 @@
 // Builds the trees of every order from 2 to 64 over 2,500 keys, key by key, and compares every word with 01's
 // rule followed by counting, and the number of keys up to each key, to the time before and to the time after it with
 // a plain count. It prints how many were wrong, an order to a line.
+#![tactic(auto)]
+
 ghost use Rattle.std.specs.Prelude.{◌+◌, ◌*◌, ◌≤◌, ◌<◌, length};
 ghost use Rattle.tree.specs.Levels.{Stretch};
 

@@ -132,8 +132,8 @@ returns-18 : tie.Need-returns-18
 unfolding refused_number record_in refusal
 returns-18 c = (rw c.enum-told17.given.1, rw c.enum-told17.given.1)
 
-pub number-spec : {M : Type 1} → statement M
-number-spec =
+pub number_spec : {M : Type 1} → statement M
+number_spec =
     tie.close
     (tie.spec
     enum_told

@@ -9,5 +9,5 @@ number-requires c κs = search rules
 returns : tie.Need-returns
 returns c = c.number.ensures.0
 
-pub question-spec : {M : Type 1} → statement M
-question-spec = tie.close (tie.spec number-requires returns)
+pub question_spec : {M : Type 1} → statement M
+question_spec = tie.close (tie.spec number-requires returns)

@@ -120,8 +120,8 @@ returns c going es lent says =
     put-zeros (size * l.j) (size * a.files) l.areas (omega arith) (omega arith) filled.fill-zero.ensures
     ∙ rw (is.1, is.0) (areas_closed_lem stays a.limit es a.areas.now a.files lent (omega arith))
 
-pub close-areas-spec : {M : Type 1} → statement M
-close-areas-spec =
+pub close_areas_spec : {M : Type 1} → statement M
+close_areas_spec =
     tie.close
     (tie.spec
     invariant-loop

@@ -49,8 +49,8 @@ returns-3 c =
     let stay = k.if1.true in
     (rw stay down.move_down.ensures, rw stay)
 
-pub join-area-spec : {M : Type 1} → statement M
-join-area-spec =
+pub join_area_spec : {M : Type 1} → statement M
+join_area_spec =
     tie.close
     (tie.spec
     returns

@@ -68,8 +68,8 @@ returns c =
     let long = ap length is ∙ same in
     put_within at (at + size - at) moved.move_up.new.0 0 a.table.now (omega arith) (omega arith) copied.copy-front.ensures ∙ rw (add-zero, is)
 
-pub put-area-spec : {M : Type 1} → statement M
-put-area-spec =
+pub put_area_spec : {M : Type 1} → statement M
+put_area_spec =
     tie.close
     (tie.spec
     mul-size

@@ -12,5 +12,5 @@ place-or-requires-2 c κs = search rules
 returns : tie.Need-returns
 returns c = rw (c.place-or2.ensures, c.before.place-or.ensures)
 
-pub as-candidates-spec : {M : Type 1} → statement M
-as-candidates-spec = tie.close (tie.spec place-or-requires place-or-requires-2 returns)
+pub as_candidates_spec : {M : Type 1} → statement M
+as_candidates_spec = tie.close (tie.spec place-or-requires place-or-requires-2 returns)

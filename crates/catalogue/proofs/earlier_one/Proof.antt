@@ -16,5 +16,5 @@ cast-t6 c = search rules
 returns-3 : tie.Need-returns-3
 returns-3 c = rw (le-leb _ _ c.before.before.before.if1.false, le-leb _ _ c.if2.false)
 
-pub earlier-one-spec : {M : Type 1} → statement M
-earlier-one-spec = tie.close (tie.spec returns returns-2 cast-t6 returns-3)
+pub earlier_one_spec : {M : Type 1} → statement M
+earlier_one_spec = tie.close (tie.spec returns returns-2 cast-t6 returns-3)

@@ -12,5 +12,5 @@ returns-2 : tie.Need-returns-2
 unfolding goes
 returns-2 c = rw (ne_eqb _ _ c.if1.false)
 
-pub goes-spec : {M : Type 1} → statement M
-goes-spec = tie.close (tie.spec returns returns-2)
+pub goes_spec : {M : Type 1} → statement M
+goes_spec = tie.close (tie.spec returns returns-2)

@@ -16,5 +16,5 @@ returns-2 : tie.Need-returns-2
 unfolding is_mark
 returns-2 c = rw (ne_eqb _ _ c.before.if1.false) c.goes.ensures
 
-pub is-mark-spec : {M : Type 1} → statement M
-is-mark-spec = tie.close (tie.spec returns goes-requires returns-2)
+pub is_mark_spec : {M : Type 1} → statement M
+is_mark_spec = tie.close (tie.spec returns goes-requires returns-2)

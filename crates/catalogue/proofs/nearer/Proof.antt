@@ -12,5 +12,5 @@ earlier-one-requires c κs = search rules
 returns : tie.Need-returns
 returns c = rw (c.earlier-one.ensures, c.before.later-one.ensures)
 
-pub nearer-spec : {M : Type 1} → statement M
-nearer-spec = tie.close (tie.spec later-one-requires earlier-one-requires returns)
+pub nearer_spec : {M : Type 1} → statement M
+nearer_spec = tie.close (tie.spec later-one-requires earlier-one-requires returns)

@@ -15,5 +15,5 @@ returns c = rw (← c.before.stays_at.ensures, c.if1.true)
 returns-2 : tie.Need-returns-2
 returns-2 c = rw (← c.before.stays_at.ensures, c.if1.false)
 
-pub next-place-spec : {M : Type 1} → statement M
-next-place-spec = tie.close (tie.spec stays-at-requires add-result returns returns-2)
+pub next_place_spec : {M : Type 1} → statement M
+next_place_spec = tie.close (tie.spec stays-at-requires add-result returns returns-2)

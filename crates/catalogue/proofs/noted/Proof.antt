@@ -24,5 +24,5 @@ mul-t9 c = search rules
 returns-2 : tie.Need-returns-2
 returns-2 c = let e = c.before in rw (← e.before.stays.ensures, e.if1.false)
 
-pub noted-spec : {M : Type 1} → statement M
-noted-spec = tie.close (tie.spec stays-requires add-t6 mul-t7 add-t8 returns mul-t9 returns-2)
+pub noted_spec : {M : Type 1} → statement M
+noted_spec = tie.close (tie.spec stays-requires add-t6 mul-t7 add-t8 returns mul-t9 returns-2)

@@ -9,5 +9,5 @@ returns c = rw (eq-eqb _ _ c.if1.true)
 returns-2 : tie.Need-returns-2
 returns-2 c = rw (ne_eqb _ _ c.if1.false)
 
-pub place-or-spec : {M : Type 1} → statement M
-place-or-spec = tie.close (tie.spec returns returns-2)
+pub place_or_spec : {M : Type 1} → statement M
+place_or_spec = tie.close (tie.spec returns returns-2)

@@ -16,5 +16,5 @@ add-result c = search rules
 returns-3 : tie.Need-returns-3
 returns-3 c = rw (eq-eqb _ _ c.before.before.if1.false, lt-ltb _ _ c.if2.false)
 
-pub place-past-spec : {M : Type 1} → statement M
-place-past-spec = tie.close (tie.spec returns returns-2 add-result returns-3)
+pub place_past_spec : {M : Type 1} → statement M
+place_past_spec = tie.close (tie.spec returns returns-2 add-result returns-3)

@@ -18,5 +18,5 @@ returns-2 : tie.Need-returns-2
 unfolding stays_when
 returns-2 c = rw c.before.before.going2.given.1
 
-pub stays-spec : {M : Type 1} → statement M
-stays-spec = tie.close (tie.spec enum-known-going enum-known-going-2 returns returns-2)
+pub stays_spec : {M : Type 1} → statement M
+stays_spec = tie.close (tie.spec enum-known-going enum-known-going-2 returns returns-2)

@@ -56,8 +56,8 @@ returns c =
     let second : 8 * x.limit + 8 * x.n.second - 8 * x.limit ≡ 8 * x.n.second = omega arith in
     (m.merge.ensures.0, rw (first, second) at m.merge.ensures.1)
 
-pub merge-both-spec : {M : Type 1} → statement M
-merge-both-spec =
+pub merge_both_spec : {M : Type 1} → statement M
+merge_both_spec =
     tie.close
     (tie.spec
     mul-start

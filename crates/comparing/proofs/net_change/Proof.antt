@@ -156,8 +156,8 @@ returns-4 c catalogue e f =
     (rw (← ap (λ (y : Candidates). y.lent) e, long start) (sym q.is_sound.ensures.0 ∙ c1.if1.true)) (omega (arith, c2.if2.false)) (omega (arith, c3.if3.false))
     (omega (arith, k.merge-both.ensures.0, size))
 
-pub net-change-spec : {M : Type 1} → statement M
-net-change-spec =
+pub net_change_spec : {M : Type 1} → statement M
+net_change_spec =
     tie.close
     (tie.spec
     is-sound-requires

@@ -71,8 +71,8 @@ returns c =
           l ly lz w1.work-out.ensures.1 w2.work-out2.ensures.1,
     )
 
-pub work-out-both-spec : {M : Type 1} → statement M
-work-out-both-spec =
+pub work_out_both_spec : {M : Type 1} → statement M
+work_out_both_spec =
     tie.close
     (tie.spec
     cast-size

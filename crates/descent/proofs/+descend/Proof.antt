@@ -110,8 +110,8 @@ module _ (t : ℕ) where
       let child = rw c.before.before.least32.ensures at c.descend.ensures in
       found_child (down n) _ n.in-node.ensures child
 
-pub +descend-spec : {M : Type 1} → statement M
-+descend-spec = close μ-descend λ t. descend-lts.spec (claims t)
+pub +descend_spec : {M : Type 1} → statement M
++descend_spec = close μ-descend λ t. descend-lts.spec (claims t)
     (descend-at t)
     descend.Post
     (in-leaf-requires t)

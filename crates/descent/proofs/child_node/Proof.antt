@@ -19,5 +19,5 @@ add-t7 c = search rules
 returns : tie.Need-returns
 returns c = omega arith
 
-pub child-node-spec : {M : Type 1} → statement M
-child-node-spec = tie.close (tie.spec mul-t4 add-t5 least32-requires add-t7 returns)
+pub child_node_spec : {M : Type 1} → statement M
+child_node_spec = tie.close (tie.spec mul-t4 add-t5 least32-requires add-t7 returns)

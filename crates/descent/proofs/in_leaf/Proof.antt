@@ -46,8 +46,8 @@ returns c =
     let word = c.before.node-word.ensures.0 in
     found_leaf c.before.before.before.before.before.requires _ (rw (← used, ← word) c.cut.ensures)
 
-pub in-leaf-spec : {M : Type 1} → statement M
-in-leaf-spec =
+pub in_leaf_spec : {M : Type 1} → statement M
+in_leaf_spec =
     tie.close
     (tie.spec
     sub-before

@@ -37,8 +37,8 @@ returns-2 c =
     let word = c.before.node-word.ensures.0 in
     rw (← used, ← word) c.cut.ensures
 
-pub in-node-spec : {M : Type 1} → statement M
-in-node-spec =
+pub in_node_spec : {M : Type 1} → statement M
+in_node_spec =
     tie.close
     (tie.spec
     returns

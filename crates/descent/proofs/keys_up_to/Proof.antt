@@ -46,8 +46,8 @@ returns-2 c =
     let top = c.before.before in
     counted_all top.before.before.before.before.before.requires (omega arith) c.descend.ensures
 
-pub keys-up-to-spec : {M : Type 1} → statement M
-keys-up-to-spec =
+pub keys_up_to_spec : {M : Type 1} → statement M
+keys_up_to_spec =
     tie.close
     (tie.spec
     returns

@@ -36,8 +36,8 @@ returns-3 c =
     let g = c.before.before.before in
     bracket_down g.args.k (omega arith) (omega arith) g.requires.1
 
-pub rung-spec : {M : Type 1} → statement M
-rung-spec =
+pub rung_spec : {M : Type 1} → statement M
+rung_spec =
     tie.close
     (tie.spec
     add-if1

@@ -63,8 +63,8 @@ loop-again c =
 returns : tie.Need-returns invariant-loop decreases-loop
 returns c = search rules
 
-pub top-of-spec : {M : Type 1} → statement M
-top-of-spec =
+pub top_of_spec : {M : Type 1} → statement M
+top_of_spec =
     tie.close
     (tie.spec
     invariant-loop

@@ -22,5 +22,5 @@ div-result c = search rules
 returns-2 : tie.Need-returns-2
 returns-2 c = search rules
 
-pub unit-below-spec : {M : Type 1} → statement M
-unit-below-spec = tie.close (tie.spec sub-result returns div-result returns-2)
+pub unit_below_spec : {M : Type 1} → statement M
+unit_below_spec = tie.close (tie.spec sub-result returns div-result returns-2)

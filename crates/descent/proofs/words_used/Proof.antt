@@ -34,5 +34,5 @@ div-result c = search rules
 returns-3 : tie.Need-returns-3
 returns-3 c = search rules
 
-pub words-used-spec : {M : Type 1} → statement M
-words-used-spec = tie.close (tie.spec sub-result returns mul-if2 sub-result-2 returns-2 sub-result-3 div-result returns-3)
+pub words_used_spec : {M : Type 1} → statement M
+words_used_spec = tie.close (tie.spec sub-result returns mul-if2 sub-result-2 returns-2 sub-result-3 div-result returns-3)

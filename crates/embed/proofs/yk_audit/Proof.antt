@@ -80,9 +80,9 @@ module _ {M : Type 1} {𝓤 : Ura M} (𝓛 : Logic 𝓤) (at_mem : Memory → SP
         ends _ u₂ r₂ (tt, (tt, (tt, (tt, (tt, (tt, tt))))))
         (fact_i 𝓤 _ (emp 𝓤) (e₂ entries.now e₁)) (1 ∷ 2 ∷ 3 ∷ 0 ∷ 4 ∷ 5 ∷ []) refl)))
 
-pub yk-audit-spec : {M : Type 1} → stated.statement M
+pub yk_audit_spec : {M : Type 1} → stated.statement M
 unfolding code.routine tables_of
-yk-audit-spec 𝓤 𝓛 𝓜 𝓡 =
+yk_audit_spec 𝓤 𝓛 𝓜 𝓡 =
     entered 𝓤 𝓛.H (triple_of 𝓛 f.signature (f.spec 𝓛 𝓜.mem 𝓡.run))
     (tables 𝓤 𝓛.H 𝓜 𝓡 code.env).C (tables 𝓤 𝓛.H 𝓜 𝓡 code.env).Λ #embed·yk-audit code.function (code.unfolded 𝓤 𝓛.H 𝓜 𝓡)
     (meets 𝓛 𝓜.mem 𝓡.run (tables_of 𝓤 𝓛.H 𝓜 (tables 𝓤 𝓛.H 𝓜 𝓡 code.env))

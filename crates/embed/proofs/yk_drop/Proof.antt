@@ -45,9 +45,9 @@ dropped = record {
   one = (R.the_type).to_one;
 }
 
-pub yk-drop-spec : {M : Type 1} → stated.statement M
+pub yk_drop_spec : {M : Type 1} → stated.statement M
 unfolding code.routine tables_of
-yk-drop-spec 𝓤 𝓛 𝓜 𝓡 =
+yk_drop_spec 𝓤 𝓛 𝓜 𝓡 =
     entered 𝓤 𝓛.H (triple_of 𝓛 f.signature (f.spec 𝓛 𝓜.mem 𝓡.run))
     (tables 𝓤 𝓛.H 𝓜 𝓡 code.env).C (tables 𝓤 𝓛.H 𝓜 𝓡 code.env).Λ key.name code.function (code.unfolded 𝓤 𝓛.H 𝓜 𝓡)
     (meets w64 dropped 𝓛 𝓜.mem 𝓡.run Of (λ st t r memory. ExactlyCrossed r memory (drop_of st t))

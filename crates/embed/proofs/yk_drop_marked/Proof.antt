@@ -47,9 +47,9 @@ cleared = record {
   one = (R.the_type).to_one;
 }
 
-pub yk-drop-marked-spec : {M : Type 1} → stated.statement M
+pub yk_drop_marked_spec : {M : Type 1} → stated.statement M
 unfolding code.routine tables_of
-yk-drop-marked-spec 𝓤 𝓛 𝓜 𝓡 =
+yk_drop_marked_spec 𝓤 𝓛 𝓜 𝓡 =
     entered 𝓤 𝓛.H (triple_of 𝓛 f.signature (f.spec 𝓛 𝓜.mem 𝓡.run))
     (tables 𝓤 𝓛.H 𝓜 𝓡 code.env).C (tables 𝓤 𝓛.H 𝓜 𝓡 code.env).Λ key.name code.function (code.unfolded 𝓤 𝓛.H 𝓜 𝓡)
     (meets w32 cleared 𝓛 𝓜.mem 𝓡.run Marked (λ st mark r memory. DropMarkedCrossed r memory (drop_marked_of st mark))

@@ -152,9 +152,9 @@ module _ {M : Type 1} {𝓤 : Ura M} (𝓛 : Logic 𝓤) (at_mem : Memory → SP
         (fact_i 𝓤 _ (emp 𝓤) (λ index. rw (e₄, cleared_first entries.now r₂.clears e₃) (e₂.1 index areas.now entries.now (sym e₁) refl))) (2 ∷ 3 ∷ 7 ∷ 0 ∷ 4 ∷ 5 ∷ 8 ∷ 10 ∷ [])
         refl))))))
 
-pub yk-fresh-spec : {M : Type 1} → stated.statement M
+pub yk_fresh_spec : {M : Type 1} → stated.statement M
 unfolding code.routine tables_of
-yk-fresh-spec 𝓤 𝓛 𝓜 𝓡 =
+yk_fresh_spec 𝓤 𝓛 𝓜 𝓡 =
     entered 𝓤 𝓛.H (triple_of 𝓛 f.signature (f.spec 𝓛 𝓜.mem 𝓡.run))
     (tables 𝓤 𝓛.H 𝓜 𝓡 code.env).C (tables 𝓤 𝓛.H 𝓜 𝓡 code.env).Λ #embed·yk-fresh code.function (code.unfolded 𝓤 𝓛.H 𝓜 𝓡)
     (meets 𝓛 𝓜.mem 𝓡.run (tables_of 𝓤 𝓛.H 𝓜 (tables 𝓤 𝓛.H 𝓜 𝓡 code.env))

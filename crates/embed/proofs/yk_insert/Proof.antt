@@ -16,9 +16,9 @@ use Rattle.embed.specs.contracts.yk_insert as f
 use Rattle.embed.proofs.yk_insert.Statement as stated
 use Rattle.embed.proofs.yk_insert.Code as code
 
-pub yk-insert-spec : {M : Type 1} → stated.statement M
+pub yk_insert_spec : {M : Type 1} → stated.statement M
 unfolding code.routine tables_of
-yk-insert-spec 𝓤 𝓛 𝓜 𝓡 =
+yk_insert_spec 𝓤 𝓛 𝓜 𝓡 =
     entered 𝓤 𝓛.H (triple_of 𝓛 f.signature (f.spec 𝓛 𝓜.mem 𝓡.run))
     (tables 𝓤 𝓛.H 𝓜 𝓡 code.env).C (tables 𝓤 𝓛.H 𝓜 𝓡 code.env).Λ key.name code.function (code.unfolded 𝓤 𝓛.H 𝓜 𝓡)
     (meets 𝓛 𝓜.mem 𝓡.run (λ st t article count r memory. AppendCrossed 1 r st (insert_questions st t article) memory (insert_of st t article count))

@@ -172,9 +172,9 @@ module _ {M : Type 1} {𝓤 : Ura M} (𝓛 : Logic 𝓤) (at_mem : Memory → SP
         ends _ u₅ r₅ (tt, (tt, (tt, (tt, (ws₄.0, (ws₃.1.1.1.1.1.1.0, (tt, (tt, tt))))))))
         (fact_i 𝓤 _ (emp 𝓤) (rw (e₅, e₄) (e₃.1.1 entries.now e₁ e₂.0))) (0 ∷ 1 ∷ 2 ∷ 6 ∷ 3 ∷ 7 ∷ 4 ∷ 9 ∷ []) refl)))))))
 
-pub yk-keep-spec : {M : Type 1} → stated.statement M
+pub yk_keep_spec : {M : Type 1} → stated.statement M
 unfolding code.routine tables_of
-yk-keep-spec 𝓤 𝓛 𝓜 𝓡 =
+yk_keep_spec 𝓤 𝓛 𝓜 𝓡 =
     entered 𝓤 𝓛.H (triple_of 𝓛 f.signature (f.spec 𝓛 𝓜.mem 𝓡.run))
     (tables 𝓤 𝓛.H 𝓜 𝓡 code.env).C (tables 𝓤 𝓛.H 𝓜 𝓡 code.env).Λ #embed·yk-keep code.function (code.unfolded 𝓤 𝓛.H 𝓜 𝓡)
     (meets 𝓛 𝓜.mem 𝓡.run (tables_of 𝓤 𝓛.H 𝓜 (tables 𝓤 𝓛.H 𝓜 𝓡 code.env))

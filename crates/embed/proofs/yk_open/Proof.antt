@@ -151,9 +151,9 @@ module _ {M : Type 1} {𝓤 : Ura M} (𝓛 : Logic 𝓤) (at_mem : Memory → SP
         ends _ u₄ r₄ (tt, (ws₂.1.0, (ws₂.1.1.0, (ws₃.0, (tt, tt)))))
         (fact_i 𝓤 _ (emp 𝓤) (rw (e₄, cleared_first entries.now r₂.clears e₃) (e₂.1 areas.now entries.now (sym e₁) refl))) (2 ∷ 3 ∷ 4 ∷ 8 ∷ 0 ∷ 5 ∷ 6 ∷ 9 ∷ 11 ∷ []) refl))))))
 
-pub yk-open-spec : {M : Type 1} → stated.statement M
+pub yk_open_spec : {M : Type 1} → stated.statement M
 unfolding code.routine tables_of
-yk-open-spec 𝓤 𝓛 𝓜 𝓡 =
+yk_open_spec 𝓤 𝓛 𝓜 𝓡 =
     entered 𝓤 𝓛.H (triple_of 𝓛 f.signature (f.spec 𝓛 𝓜.mem 𝓡.run))
     (tables 𝓤 𝓛.H 𝓜 𝓡 code.env).C (tables 𝓤 𝓛.H 𝓜 𝓡 code.env).Λ #embed·yk-open code.function (code.unfolded 𝓤 𝓛.H 𝓜 𝓡)
     (meets 𝓛 𝓜.mem 𝓡.run (tables_of 𝓤 𝓛.H 𝓜 (tables 𝓤 𝓛.H 𝓜 𝓡 code.env))

@@ -16,9 +16,9 @@ use Rattle.embed.specs.contracts.yk_update as f
 use Rattle.embed.proofs.yk_update.Statement as stated
 use Rattle.embed.proofs.yk_update.Code as code
 
-pub yk-update-spec : {M : Type 1} → stated.statement M
+pub yk_update_spec : {M : Type 1} → stated.statement M
 unfolding code.routine tables_of
-yk-update-spec 𝓤 𝓛 𝓜 𝓡 =
+yk_update_spec 𝓤 𝓛 𝓜 𝓡 =
     entered 𝓤 𝓛.H (triple_of 𝓛 f.signature (f.spec 𝓛 𝓜.mem 𝓡.run))
     (tables 𝓤 𝓛.H 𝓜 𝓡 code.env).C (tables 𝓤 𝓛.H 𝓜 𝓡 code.env).Λ key.name code.function (code.unfolded 𝓤 𝓛.H 𝓜 𝓡)
     (meets 𝓛 𝓜.mem 𝓡.run (λ st t article count r memory. AppendCrossed 2 r st (present_questions st t article 2) memory (update_of st t article count))

@@ -57,8 +57,8 @@ returns-3 c index long =
     let a = q.before.before.before.before.args in
     marked_answered a.s a.log.now index a.current.now a.x a.areas.now (rw long (sym q.is_sound.ensures.0 ∙ t1.if1.true)) fit.files_sixteen fit.files_lent a.mark (sym k.goes.ensures ∙ t2.if2.true) gone.let_go.ensures
 
-pub drop-marked-spec : {M : Type 1} → statement M
-drop-marked-spec =
+pub drop_marked_spec : {M : Type 1} → statement M
+drop_marked_spec =
     tie.close
     (tie.spec
     is-sound-requires

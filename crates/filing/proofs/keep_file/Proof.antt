@@ -80,8 +80,8 @@ returns c catalogue mark same place few =
     (rw (used_all a.s catalogue (omega (arith, start.requires.1.1.0.0))) at place) areas-are
     (λ ok. let is = worked.work-out.ensures.1.on catalogue same ok in (rw is.0, is.1))
 
-pub keep-file-spec : {M : Type 1} → statement M
-keep-file-spec =
+pub keep_file_spec : {M : Type 1} → statement M
+keep_file_spec =
     tie.close
     (tie.spec
     cast-size

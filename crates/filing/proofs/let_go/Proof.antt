@@ -23,5 +23,5 @@ returns c =
     let a = start.args in
     let_go_of a.s a.x a.areas.now c.counted.ensures areas.close-areas.ensures
 
-pub let-go-spec : {M : Type 1} → statement M
-let-go-spec = tie.close (tie.spec cast-close-areas close-areas-requires counted-requires same_length returns)
+pub let_go_spec : {M : Type 1} → statement M
+let_go_spec = tie.close (tie.spec cast-close-areas close-areas-requires counted-requires same_length returns)

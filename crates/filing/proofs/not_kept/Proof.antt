@@ -9,5 +9,5 @@ no-entry-requires c κs = search rules
 returns : tie.Need-returns
 returns c = rw c.no-entry.ensures
 
-pub not-kept-spec : {M : Type 1} → statement M
-not-kept-spec = tie.close (tie.spec no-entry-requires returns)
+pub not_kept_spec : {M : Type 1} → statement M
+not_kept_spec = tie.close (tie.spec no-entry-requires returns)

@@ -70,6 +70,6 @@ returns-4 c =
     stopped a.order a.page a.limit _ (rw x.why.given.1 at f.checked.ensures) (λ (o : Outcome Lengths). o)
     (question 5 (leb a.records 65536) ∷ question 15 (leb a.files 16) ∷ []) _
 
-pub lengths-for-spec : {M : Type 1} → statement M
-lengths-for-spec =
+pub lengths_for_spec : {M : Type 1} → statement M
+lengths_for_spec =
     tie.close (tie.spec checked-requires enum-known-s returns returns-2 lengths-in-range-requires enum-known-why returns-3 returns-4)

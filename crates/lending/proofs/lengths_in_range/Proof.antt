@@ -39,6 +39,6 @@ mul-workspace c = search rules
 returns : tie.Need-returns
 returns c = rw c.index-need.ensures
 
-pub lengths-in-range-spec : {M : Type 1} → statement M
-lengths-in-range-spec =
+pub lengths_in_range_spec : {M : Type 1} → statement M
+lengths_in_range_spec =
     tie.close (tie.spec cast-rows mul-log add-log index-need-requires mul-table mul-areas mul-areas-2 mul-output mul-workspace returns)

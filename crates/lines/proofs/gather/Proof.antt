@@ -31,8 +31,8 @@ returns c =
       written = put_front s.args.at s.args.buffer.now s.args.text.now s.requires c.before.before.copy-front.ensures;
     }
 
-pub gather-spec : {M : Type 1} → statement M
-gather-spec =
+pub gather_spec : {M : Type 1} → statement M
+gather_spec =
     tie.close
     (tie.spec
     sub-copy-front

@@ -53,8 +53,8 @@ returns c =
     let four = gathered_then h three counted.put-number3.ensures.0 in
     (simp append_assoc at (gathered_then h four ended.gather2.ensures), search rules)
 
-pub put-line-spec : {M : Type 1} → statement M
-put-line-spec =
+pub put_line_spec : {M : Type 1} → statement M
+put_line_spec =
     tie.close
     (tie.spec
     put-number-requires

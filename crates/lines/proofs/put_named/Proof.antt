@@ -35,5 +35,5 @@ returns c =
     let all = gathered_then h (gathered_then h named.gather.ensures numbered.put-number.ensures.0) ended.gather2.ensures in
     (rw append_assoc at all, omega (arith, named.gather.ensures.ends, numbered.put-number.ensures.1, ended.gather2.ensures.ends))
 
-pub put-named-spec : {M : Type 1} → statement M
-put-named-spec = tie.close (tie.spec gather-requires put-number-requires slice-aggregate-gather gather-requires-2 same_length returns)
+pub put_named_spec : {M : Type 1} → statement M
+put_named_spec = tie.close (tie.spec gather-requires put-number-requires slice-aggregate-gather gather-requires-2 same_length returns)

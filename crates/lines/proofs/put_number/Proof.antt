@@ -32,8 +32,8 @@ returns c =
     let e = d.decimal.ensures.1.1 ∙ digits_numeral k d.before.before.before.args.n (few d) d.decimal.ensures.1.0 in
     (rw e at c.before.before.gather.ensures, omega (arith, few d, c.before.before.gather.ensures.ends, d.decimal.ensures.0))
 
-pub put-number-spec : {M : Type 1} → statement M
-put-number-spec =
+pub put_number_spec : {M : Type 1} → statement M
+put_number_spec =
     tie.close
     (tie.spec
     decimal-requires

@@ -20,5 +20,5 @@ returns c =
     let named = c.before.before.put-named.ensures in
     (named.0, omega (arith, named.1))
 
-pub put-refused-spec : {M : Type 1} → statement M
-put-refused-spec = tie.close (tie.spec slice-aggregate-put-named put-named-requires same_length returns)
+pub put_refused_spec : {M : Type 1} → statement M
+put_refused_spec = tie.close (tie.spec slice-aggregate-put-named put-named-requires same_length returns)

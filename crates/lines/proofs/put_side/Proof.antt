@@ -41,8 +41,8 @@ returns-2 c =
     let e = c.before.before.before.before.before.enum-told2.given.1 in
     (rw e c.before.before.gather2.ensures, omega (arith, c.before.before.gather2.ensures.ends))
 
-pub put-side-spec : {M : Type 1} → statement M
-put-side-spec =
+pub put_side_spec : {M : Type 1} → statement M
+put_side_spec =
     tie.close
     (tie.spec
     enum_told

@@ -20,5 +20,5 @@ returns c =
     let named = c.before.before.put-named.ensures in
     (named.0, omega (arith, named.1))
 
-pub put-units-spec : {M : Type 1} → statement M
-put-units-spec = tie.close (tie.spec slice-aggregate-put-named put-named-requires same_length returns)
+pub put_units_spec : {M : Type 1} → statement M
+put_units_spec = tie.close (tie.spec slice-aggregate-put-named put-named-requires same_length returns)

@@ -74,8 +74,8 @@ returns c =
     let written = put-zeros (12 * l.k) (length l.out) l.out (omega arith) (omega arith) z.fill-zero.ensures in
     (omega arith, rw written (merges x.a.now x.b.now l.i l.j l.k x.out.now l.out (omega arith) (omega arith) (omega arith) l.invariant.1.1.1.1))
 
-pub merge-spec : {M : Type 1} → statement M
-merge-spec =
+pub merge_spec : {M : Type 1} → statement M
+merge_spec =
     tie.close
     (tie.spec
     invariant-loop

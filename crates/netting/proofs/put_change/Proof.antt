@@ -44,8 +44,8 @@ returns c =
     c4.put322.ensures
     ∙ rw (c3.put32.ensures, c2.put162.ensures, c1.put16.ensures) (change_put a.out.now (12 * a.k) a.kind a.article a.count (omega arith))
 
-pub put-change-spec : {M : Type 1} → statement M
-put-change-spec =
+pub put_change_spec : {M : Type 1} → statement M
+put_change_spec =
     tie.close
     (tie.spec
     mul_at

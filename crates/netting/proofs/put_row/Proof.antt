@@ -30,8 +30,8 @@ returns c =
     let g2 = p.before.before in
     rw (g2.before.get32.ensures, g2.get322.ensures) at p.put-change.ensures
 
-pub put-row-spec : {M : Type 1} → statement M
-put-row-spec =
+pub put_row_spec : {M : Type 1} → statement M
+put_row_spec =
     tie.close
     (tie.spec
     mul-get32

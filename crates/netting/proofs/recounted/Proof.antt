@@ -42,8 +42,8 @@ returns c =
     let next : 12 * (x.k + 1) ≡ 12 * x.k + length out = omega (arith, length_change_bytes (change_at 3 x.was.now x.i)) in
     (refl, c2.put-row2.ensures ∙ rw (c1.put-row.ensures, next) (put-append x.out.now (12 * x.k) out into (omega arith)))
 
-pub recounted-spec : {M : Type 1} → statement M
-recounted-spec =
+pub recounted_spec : {M : Type 1} → statement M
+recounted_spec =
     tie.close
     (tie.spec
     add-next

@@ -20,5 +20,5 @@ returns : tie.Need-returns
 unfolding stretch_of
 returns c catalogue e = c.yes-out.ensures ∙ ap yes_out (c.before.audit.ensures catalogue e)
 
-pub audit-spec : {M : Type 1} → statement M
-audit-spec = tie.close (tie.spec slice-aggregate-audit audit-requires yes-out-requires returns)
+pub audit_spec : {M : Type 1} → statement M
+audit_spec = tie.close (tie.spec slice-aggregate-audit audit-requires yes-out-requires returns)

@@ -29,5 +29,5 @@ returns c catalogue area e g =
     let p = c.before.before.before.before.before.before.before in
     record { numbers = p.delete.result.numbers; verdict = p.delete.result.verdict; is = c.append-out.ensures; kept = p.delete.ensures.0 catalogue area e g }
 
-pub delete-spec : {M : Type 1} → statement M
-delete-spec = tie.close (tie.spec slice-aggregate-delete delete-requires append-out-requires same_length same-length-2 same-length-3 returns)
+pub delete_spec : {M : Type 1} → statement M
+delete_spec = tie.close (tie.spec slice-aggregate-delete delete-requires append-out-requires same_length same-length-2 same-length-3 returns)

@@ -27,5 +27,5 @@ returns c =
       },
     )
 
-pub drop-marked-spec : {M : Type 1} → statement M
-drop-marked-spec = tie.close (tie.spec drop-marked-requires clear-out-requires same_length returns)
+pub drop_marked_spec : {M : Type 1} → statement M
+drop_marked_spec = tie.close (tie.spec drop-marked-requires clear-out-requires same_length returns)

@@ -30,5 +30,5 @@ returns c =
       },
     )
 
-pub fresh-spec : {M : Type 1} → statement M
-fresh-spec = tie.close (tie.spec fresh-requires begin-requires same_length same-length-2 returns)
+pub fresh_spec : {M : Type 1} → statement M
+fresh_spec = tie.close (tie.spec fresh-requires begin-requires same_length same-length-2 returns)

@@ -29,5 +29,5 @@ returns c catalogue area e g =
     let p = c.before.before.before.before.before.before.before in
     record { numbers = p.insert.result.numbers; verdict = p.insert.result.verdict; is = c.append-out.ensures; kept = p.insert.ensures.0 catalogue area e g }
 
-pub insert-spec : {M : Type 1} → statement M
-insert-spec = tie.close (tie.spec slice-aggregate-insert insert-requires append-out-requires same_length same-length-2 same-length-3 returns)
+pub insert_spec : {M : Type 1} → statement M
+insert_spec = tie.close (tie.spec slice-aggregate-insert insert-requires append-out-requires same_length same-length-2 same-length-3 returns)

@@ -12,5 +12,5 @@ lengths-out-requires c κs = search rules
 returns : tie.Need-returns
 returns c = record { answer = c.before.lengths-for.result; is = c.lengths-out.ensures; kept = c.before.lengths-for.ensures }
 
-pub lengths-for-spec : {M : Type 1} → statement M
-lengths-for-spec = tie.close (tie.spec lengths-for-requires lengths-out-requires returns)
+pub lengths_for_spec : {M : Type 1} → statement M
+lengths_for_spec = tie.close (tie.spec lengths-for-requires lengths-out-requires returns)

@@ -29,6 +29,6 @@ returns c catalogue e f =
       kept = c.before.before.before.before.before.change_between.ensures catalogue e f;
     }
 
-pub net-change-spec : {M : Type 1} → statement M
-net-change-spec =
+pub net_change_spec : {M : Type 1} → statement M
+net_change_spec =
     tie.close (tie.spec slice-aggregate-net-change net-change-requires net-change-out-requires same_length same-length-2 returns)

@@ -20,5 +20,5 @@ returns : tie.Need-returns
 unfolding stretch_of
 returns c catalogue area e f = record { answer = c.before.position.result; is = c.position-out.ensures; kept = c.before.position.ensures catalogue area e f }
 
-pub position-spec : {M : Type 1} → statement M
-position-spec = tie.close (tie.spec slice-aggregate-position position-requires position-out-requires returns)
+pub position_spec : {M : Type 1} → statement M
+position_spec = tie.close (tie.spec slice-aggregate-position position-requires position-out-requires returns)

@@ -23,5 +23,5 @@ returns : tie.Need-returns
 unfolding stretch_of
 returns c catalogue e = record { answer = c.before.before.before.table.result; is = c.table-out.ensures; kept = c.before.before.before.table.ensures catalogue e }
 
-pub table-spec : {M : Type 1} → statement M
-table-spec = tie.close (tie.spec slice-aggregate-table table-requires table-out-requires same_length returns)
+pub table_spec : {M : Type 1} → statement M
+table_spec = tie.close (tie.spec slice-aggregate-table table-requires table-out-requires same_length returns)

@@ -20,5 +20,5 @@ returns : tie.Need-returns
 unfolding stretch_of
 returns c catalogue e = record { answer = c.before.at.result; is = c.units-out.ensures; kept = c.before.at.ensures catalogue e }
 
-pub units-spec : {M : Type 1} → statement M
-units-spec = tie.close (tie.spec slice-aggregate-at at-requires units-out-requires returns)
+pub units_spec : {M : Type 1} → statement M
+units_spec = tie.close (tie.spec slice-aggregate-at at-requires units-out-requires returns)

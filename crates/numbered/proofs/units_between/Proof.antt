@@ -20,5 +20,5 @@ returns : tie.Need-returns
 unfolding stretch_of
 returns c catalogue e f = record { answer = c.before.between.result; is = c.difference-out.ensures; kept = c.before.between.ensures catalogue e f }
 
-pub units-between-spec : {M : Type 1} → statement M
-units-between-spec = tie.close (tie.spec slice-aggregate-between between-requires difference-out-requires returns)
+pub units_between_spec : {M : Type 1} → statement M
+units_between_spec = tie.close (tie.spec slice-aggregate-between between-requires difference-out-requires returns)

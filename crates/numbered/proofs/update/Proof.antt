@@ -29,5 +29,5 @@ returns c catalogue area e g =
     let p = c.before.before.before.before.before.before.before in
     record { numbers = p.update.result.numbers; verdict = p.update.result.verdict; is = c.append-out.ensures; kept = p.update.ensures.0 catalogue area e g }
 
-pub update-spec : {M : Type 1} → statement M
-update-spec = tie.close (tie.spec slice-aggregate-update update-requires append-out-requires same_length same-length-2 same-length-3 returns)
+pub update_spec : {M : Type 1} → statement M
+update_spec = tie.close (tie.spec slice-aggregate-update update-requires append-out-requires same_length same-length-2 same-length-3 returns)

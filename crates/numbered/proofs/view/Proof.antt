@@ -30,5 +30,5 @@ returns c catalogue e =
           rw (c.View-out.ensures, ← span-part a.s.limit a.areas.now a.current.now v.view.result) (v.view.ensures catalogue e);
     }
 
-pub view-spec : {M : Type 1} → statement M
-view-spec = tie.close (tie.spec slice-aggregate-view view-requires view-out-requires returns)
+pub view_spec : {M : Type 1} → statement M
+view_spec = tie.close (tie.spec slice-aggregate-view view-requires view-out-requires returns)

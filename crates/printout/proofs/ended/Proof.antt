@@ -6,5 +6,5 @@ use Rattle.printout.proofs.ended.Tie as tie
 returns : tie.Need-returns
 returns c = refl
 
-pub ended-spec : {M : Type 1} → statement M
-ended-spec = tie.close (tie.spec returns)
+pub ended_spec : {M : Type 1} → statement M
+ended_spec = tie.close (tie.spec returns)

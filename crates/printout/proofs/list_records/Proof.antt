@@ -377,9 +377,9 @@ module _ {M : Type 1} {𝓤 : Ura M} (𝓛 : Logic 𝓤) (at_mem : Memory → SP
       a.0 (only (LL.vals N.the_type N'.the_laws a.0)) are.0 a.1.0 are.1.0.0.1 a.1.1.0 are.1.1.0.0.1 a.1.1.1.0 are.1.1.1.0.0.1
       a.1.1.1.1.0 are.1.1.1.1.0.0.1 a.1.1.1.1.1.0 are.1.1.1.1.1.0.0.1 a.1.1.1.1.1.1.0 are.1.1.1.1.1.1.0.1 h 𝓣 k0 k1 k2 k3 k4))
 
-pub list-records-spec : {M : Type 1} → stated.statement M
+pub list_records_spec : {M : Type 1} → stated.statement M
 unfolding code.routine tables_of
-list-records-spec 𝓤 𝓛 𝓜 𝓡 =
+list_records_spec 𝓤 𝓛 𝓜 𝓡 =
     entered 𝓤 𝓛.H (triple_of 𝓛 f.signature (f.spec 𝓛 𝓜.mem 𝓡.run))
     (tables 𝓤 𝓛.H 𝓜 𝓡 code.env).C (tables 𝓤 𝓛.H 𝓜 𝓡 code.env).Λ #printout·list-records code.function (code.unfolded 𝓤 𝓛.H 𝓜 𝓡)
     (meets 𝓛 𝓜.mem 𝓡.run (tables_of 𝓤 𝓛.H 𝓜 (tables 𝓤 𝓛.H 𝓜 𝓡 code.env))

@@ -72,8 +72,8 @@ returns-4 c =
     let room = listed.before.before.before.before in
     (omega (arith, fits room, listed.list-time.ensures), listed_on (handed room).step.given.1 refl refl refl)
 
-pub list-step-spec : {M : Type 1} → statement M
-list-step-spec =
+pub list_step_spec : {M : Type 1} → statement M
+list_step_spec =
     tie.close
     (tie.spec
     enum-known-step

@@ -62,8 +62,8 @@ same-length-3 c = search rules
 returns-3 : tie.Need-returns-3
 returns-3 c = search rules
 
-pub list-time-spec : {M : Type 1} → statement M
-list-time-spec =
+pub list_time_spec : {M : Type 1} → statement M
+list_time_spec =
     tie.close
     (tie.spec
     slice-aggregate-position

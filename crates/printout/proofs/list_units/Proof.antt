@@ -78,5 +78,5 @@ same-length-3 c = search rules
 returns-3 : tie.Need-returns-3
 returns-3 c = search rules
 
-pub list-units-spec : {M : Type 1} → statement M
-list-units-spec = tie.close (tie.spec make-room-requires enum-known-room enum_told fail-requires same_length returns sub-none part-none-start part-none-end slice-aggregate-at no-files-requires at-requires enum-known-total enum-told-2 finish-requires same-length-2 returns-2 put-units-requires finish-requires-2 same-length-3 returns-3)
+pub list_units_spec : {M : Type 1} → statement M
+list_units_spec = tie.close (tie.spec make-room-requires enum-known-room enum_told fail-requires same_length returns sub-none part-none-start part-none-end slice-aggregate-at no-files-requires at-requires enum-known-total enum-told-2 finish-requires same-length-2 returns-2 put-units-requires finish-requires-2 same-length-3 returns-3)

@@ -58,8 +58,8 @@ returns-2 c = search rules
 returns-3 : tie.Need-returns-3
 returns-3 c = search rules
 
-pub yk-list-spec : {M : Type 1} → statement M
-yk-list-spec =
+pub yk_list_spec : {M : Type 1} → statement M
+yk_list_spec =
     tie.close
     (tie.spec
     slice-aggregate-read-log

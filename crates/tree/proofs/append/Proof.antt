@@ -95,8 +95,8 @@ returns-2 c =
     let a = g.args in
     rw (ne_eqb (a.k % (a.d - 1)) 0 (λ z. absurd (omega arith)), c.node-word.ensures.0, c.before.before.leaf-node.ensures.0)
 
-pub append-spec : {M : Type 1} → statement M
-append-spec =
+pub append_spec : {M : Type 1} → statement M
+append_spec =
     tie.close
     (tie.spec
     cast-order

@@ -93,8 +93,8 @@ returns c =
     let e : lp.loop.i ≡ n.nodes-of.result = omega (arith, lp.loop.invariant.0) in
     lp.loop.invariant.1.1 ∙ ap (λ (i : ℕ). without_nodes_at (place_of a.d a.extent a.starts.now) a.d i a.index.now) (e ∙ n.nodes-of.ensures.0)
 
-pub clear-nodes-spec : {M : Type 1} → statement M
-clear-nodes-spec =
+pub clear_nodes_spec : {M : Type 1} → statement M
+clear_nodes_spec =
     tie.close
     (tie.spec
     invariant-loop

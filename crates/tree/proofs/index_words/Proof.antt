@@ -17,5 +17,5 @@ words-of-requires c κs = search rules
 returns : tie.Need-returns
 returns c = c.words_of.ensures.0 ∙ ap (node_word c.before.before.args.d) c.before.nodes-of.ensures.0
 
-pub index-words-spec : {M : Type 1} → statement M
-index-words-spec = tie.close (tie.spec cast-words-of nodes-of-requires words-of-requires returns)
+pub index_words_spec : {M : Type 1} → statement M
+index_words_spec = tie.close (tie.spec cast-words-of nodes-of-requires words-of-requires returns)

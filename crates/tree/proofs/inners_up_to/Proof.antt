@@ -58,8 +58,8 @@ returns c =
     let lp = c.before.loop in
     omega (arith, inners_le a.d (omega arith) lp.left, inners_le a.d (omega arith) a.m)
 
-pub inners-up-to-spec : {M : Type 1} → statement M
-inners-up-to-spec =
+pub inners_up_to_spec : {M : Type 1} → statement M
+inners_up_to_spec =
     tie.close
     (tie.spec
     invariant-loop

@@ -17,5 +17,5 @@ returns c =
     let e = leaf_closed a.d (omega arith) a.m in
     omega (arith, e)
 
-pub leaf-node-spec : {M : Type 1} → statement M
-leaf-node-spec = tie.close (tie.spec inners-up-to-requires add-t4 returns)
+pub leaf_node_spec : {M : Type 1} → statement M
+leaf_node_spec = tie.close (tie.spec inners-up-to-requires add-t4 returns)

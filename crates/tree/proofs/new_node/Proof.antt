@@ -30,8 +30,8 @@ returns c =
     let a = c.before.before.before.before.before.args in
     node_is a.w a.v a.part.now (omega arith) (omega arith) c.before.before.clear-words.ensures
 
-pub new-node-spec : {M : Type 1} → statement M
-new-node-spec =
+pub new_node_spec : {M : Type 1} → statement M
+new_node_spec =
     tie.close
     (tie.spec
     slice-write-part

@@ -118,8 +118,8 @@ returns c =
     ∙ ap (λ (x : ℕ). set xs (at (inner_node a.d (host a.d a.m)) + (x - 1)) (get_or xs (at (leaf_node a.d (a.m - 1)) + (a.d - 2)) 0)) g.requires.1.1.0
     ∙ sym (separator_other at a.d a.m xs _ g.requires.1.0 o)
 
-pub next-separator-spec : {M : Type 1} → statement M
-next-separator-spec =
+pub next_separator_spec : {M : Type 1} → statement M
+next_separator_spec =
     tie.close
     (tie.spec
     sub-index

@@ -58,5 +58,5 @@ returns-2 c =
     let e = place_extent a.d a.extent a.starts.now a.node.0 (λ z. omega arith) in
     (ap (λ (n : ℕ). get_or a.starts.now (a.node.0 / a.extent) 0 + n) c.words-of2.ensures.0 ∙ sym e, omega (arith, e, c.words-of2.ensures.0, g.requires.1.1.1.inside))
 
-pub node-word-spec : {M : Type 1} → statement M
-node-word-spec = tie.close (tie.spec words-of-requires returns div-result cast-result mul-result shared-slice-read-result rem-words-of words-of-requires-2 add-result returns-2)
+pub node_word_spec : {M : Type 1} → statement M
+node_word_spec = tie.close (tie.spec words-of-requires returns div-result cast-result mul-result shared-slice-read-result rem-words-of words-of-requires-2 add-result returns-2)

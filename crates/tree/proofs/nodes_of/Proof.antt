@@ -52,8 +52,8 @@ returns-2 c =
     let a = c.before.before.before.args in
     (ap (λ (n : ℕ). n + 1) c.before.leaf-node.ensures.0 ∙ sym (nodes-last a.d (omega arith) (leaves_of a.d a.k) (omega arith)), omega (arith, leaves_le a.d a.k (omega arith)))
 
-pub nodes-of-spec : {M : Type 1} → statement M
-nodes-of-spec =
+pub nodes_of_spec : {M : Type 1} → statement M
+nodes_of_spec =
     tie.close
     (tie.spec
     cast-order

@@ -108,8 +108,8 @@ returns c =
     put_node w2.result (a.d - 1) s xs (omega (arith, g.requires.0.order_low)) (node_inside g.requires.0 w2.ensures.0 (omega arith)) c.before.before.new-node.ensures
     ∙ ap₂ (λ (x y : ℕ). put xs x (padded (a.d - 1) (get_or xs (y + (a.d - 2)) 0 ∷ []))) e f ∙ sym (separator-own at a.d a.m xs _ g.requires.1.0 o)
 
-pub open-node-spec : {M : Type 1} → statement M
-open-node-spec =
+pub open_node_spec : {M : Type 1} → statement M
+open_node_spec =
     tie.close
     (tie.spec
     sub-new-node

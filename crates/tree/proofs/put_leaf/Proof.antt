@@ -115,8 +115,8 @@ returns-2 c =
     put_node w.result (a.d - 1) a.key a.index.now (omega (arith, g.requires.order_low)) (omega (arith, node_inside g.requires w.ensures.0 (le_refl _))) c.before.before.new-node2.ensures
     ∙ rw e (sym (leaf_first at a.d a.m a.index.now a.key (omega arith)))
 
-pub put-leaf-spec : {M : Type 1} → statement M
-put-leaf-spec =
+pub put_leaf_spec : {M : Type 1} → statement M
+put_leaf_spec =
     tie.close
     (tie.spec
     put-separator-requires

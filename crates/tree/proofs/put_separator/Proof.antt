@@ -30,8 +30,8 @@ same-length-2 c = search rules
 returns-2 : tie.Need-returns-2
 returns-2 c = search rules
 
-pub put-separator-spec : {M : Type 1} → statement M
-put-separator-spec =
+pub put_separator_spec : {M : Type 1} → statement M
+put_separator_spec =
     tie.close
     (tie.spec
     strip-requires

@@ -79,7 +79,7 @@ returns c =
     let v : valuation a.d a.m - valuation a.d lp.left ≡ valuation a.d a.m = omega (arith, valuation-none a.d two lp.left n) in
     (ap (λ (x : ℕ). x % a.d) (sym (cofactor-none a.d two lp.left n) ∙ lp.invariant.1.1.0), lp.invariant.1.1.1.1 ∙ ap (full_nodes a.d) v)
 
-pub strip-spec : {M : Type 1} → statement M
-strip-spec =
+pub strip_spec : {M : Type 1} → statement M
+strip_spec =
     tie.close
     (tie.spec invariant-loop decreases-loop loop-holds rem-loop div-left mul-full add-full loop-less loop-again rem-t7 returns)

@@ -18,5 +18,5 @@ cast-result c = record { fits = lt_of_le_of_lt (mul-le-mul {n₂ = 131073} {m₂
 returns : tie.Need-returns
 returns c = omega (arith, word_fits c.args.nodes c.args.d (omega arith) (omega arith))
 
-pub words-of-spec : {M : Type 1} → statement M
-words-of-spec = tie.close (tie.spec sub-result mul-result cast-result returns)
+pub words_of_spec : {M : Type 1} → statement M
+words_of_spec = tie.close (tie.spec sub-result mul-result cast-result returns)

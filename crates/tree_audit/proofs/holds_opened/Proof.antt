@@ -32,8 +32,8 @@ holds-times-requires c κs = search rules
 returns-2 : tie.Need-returns-2
 returns-2 c = decides_where c.holds-times.result _ _ (omega arith) c.holds-times.ensures
 
-pub holds-opened-spec : {M : Type 1} → statement M
-holds-opened-spec =
+pub holds_opened_spec : {M : Type 1} → statement M
+holds_opened_spec =
     tie.close
     (tie.spec
     returns

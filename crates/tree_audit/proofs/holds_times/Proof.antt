@@ -74,8 +74,8 @@ returns-2 c =
     let e : l.loop.i ≡ a.w = omega arith in
     rw e at l.loop.invariant.1.1
 
-pub holds-times-spec : {M : Type 1} → statement M
-holds-times-spec =
+pub holds_times_spec : {M : Type 1} → statement M
+holds_times_spec =
     tie.close
     (tie.spec
     invariant-loop

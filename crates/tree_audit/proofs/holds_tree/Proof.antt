@@ -193,8 +193,8 @@ returns-3 c =
     tree_held a.order a.page a.n a.b.now a.words.now st.requires
     (walked_all a.order a.page a.n a.b.now a.words.now st.requires l.loop.invariant c.loop-test.false)
 
-pub holds-tree-spec : {M : Type 1} → statement M
-holds-tree-spec =
+pub holds_tree_spec : {M : Type 1} → statement M
+holds_tree_spec =
     tie.close
     (tie.spec
     invariant-loop

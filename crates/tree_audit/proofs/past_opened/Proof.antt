@@ -13,5 +13,5 @@ returns c = rw (lt-ltb _ _ c.if1.true)
 returns-2 : tie.Need-returns-2
 returns-2 c = rw (le-ltb _ _ c.if1.false)
 
-pub past-opened-spec : {M : Type 1} → statement M
-past-opened-spec = tie.close (tie.spec add-result returns returns-2)
+pub past_opened_spec : {M : Type 1} → statement M
+past_opened_spec = tie.close (tie.spec add-result returns returns-2)

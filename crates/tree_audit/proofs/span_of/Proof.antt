@@ -47,7 +47,7 @@ returns-3 c =
     let few = span_few a.d a.m q.strip.result.full (omega arith) (omega arith) q.strip.ensures.1 o in
     (e ∙ sym (span-some a.d a.m (is_opening a.d a.m o)), omega (arith, e, few))
 
-pub span-of-spec : {M : Type 1} → statement M
-span-of-spec =
+pub span_of_spec : {M : Type 1} → statement M
+span_of_spec =
     tie.close
     (tie.spec returns strip-requires returns-2 sub-result div-result sub-result-2 returns-3)

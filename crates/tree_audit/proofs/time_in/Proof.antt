@@ -18,5 +18,5 @@ returns-2 c =
     let a = c.before.before.args in
     sym (time_past a.b.now a.stop a.k c.if1.false)
 
-pub time-in-spec : {M : Type 1} → statement M
-time-in-spec = tie.close (tie.spec time-at-requires returns returns-2)
+pub time_in_spec : {M : Type 1} → statement M
+time_in_spec = tie.close (tie.spec time-at-requires returns returns-2)

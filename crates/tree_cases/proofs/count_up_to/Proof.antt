@@ -39,8 +39,8 @@ loop-again-2 c = search rules
 returns : tie.Need-returns invariant-loop decreases-loop
 returns c = search rules
 
-pub count-up-to-spec : {M : Type 1} → statement M
-count-up-to-spec =
+pub count_up_to_spec : {M : Type 1} → statement M
+count_up_to_spec =
     tie.close
     (tie.spec
     invariant-loop

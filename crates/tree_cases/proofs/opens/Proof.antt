@@ -37,7 +37,7 @@ rem-result c = search rules
 returns : tie.Need-returns invariant-loop decreases-loop
 returns c = search rules
 
-pub opens-spec : {M : Type 1} → statement M
-opens-spec =
+pub opens_spec : {M : Type 1} → statement M
+opens_spec =
     tie.close
     (tie.spec invariant-loop decreases-loop loop-holds rem-loop div-left loop-less loop-again rem-result returns)

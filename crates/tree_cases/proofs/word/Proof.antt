@@ -30,6 +30,6 @@ returns c = search rules
 returns-2 : tie.Need-returns-2
 returns-2 c = search rules
 
-pub word-spec : {M : Type 1} → statement M
-word-spec =
+pub word_spec : {M : Type 1} → statement M
+word_spec =
     tie.close (tie.spec sub_at mul_at add_at mul-result shared-slice-read-result returns returns-2)

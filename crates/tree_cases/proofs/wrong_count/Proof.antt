@@ -22,7 +22,7 @@ tally-requires c κs = search rules
 returns : tie.Need-returns
 returns c = search rules
 
-pub wrong-count-spec : {M : Type 1} → statement M
-wrong-count-spec =
+pub wrong_count_spec : {M : Type 1} → statement M
+wrong_count_spec =
     tie.close
     (tie.spec slice-aggregate-keys-up-to keys-up-to-requires cast-tally count-up-to-requires tally-requires returns)

@@ -44,8 +44,8 @@ loop-again c = search rules
 returns : tie.Need-returns invariant-loop decreases-loop
 returns c = search rules
 
-pub wrong-counts-spec : {M : Type 1} → statement M
-wrong-counts-spec =
+pub wrong_counts_spec : {M : Type 1} → statement M
+wrong_counts_spec =
     tie.close
     (tie.spec
     invariant-loop

@@ -68,8 +68,8 @@ tally-requires-2 c κs = search rules
 returns-3 : tie.Need-returns-3
 returns-3 c = search rules
 
-pub wrong-key-spec : {M : Type 1} → statement M
-wrong-key-spec =
+pub wrong_key_spec : {M : Type 1} → statement M
+wrong_key_spec =
     tie.close
     (tie.spec
     sub-m

@@ -44,8 +44,8 @@ tally-requires-2 c κs = search rules
 returns-3 : tie.Need-returns-3
 returns-3 c = search rules
 
-pub wrong-rest-spec : {M : Type 1} → statement M
-wrong-rest-spec =
+pub wrong_rest_spec : {M : Type 1} → statement M
+wrong_rest_spec =
     tie.close
     (tie.spec
     sub_used

@@ -29,7 +29,7 @@ loop-again c = search rules
 returns : tie.Need-returns invariant-loop decreases-loop
 returns c = search rules
 
-pub wrong-words-spec : {M : Type 1} → statement M
-wrong-words-spec =
+pub wrong_words_spec : {M : Type 1} → statement M
+wrong_words_spec =
     tie.close
     (tie.spec invariant-loop decreases-loop loop-holds wrong-key-requires add-i loop-less loop-again returns)

@@ -43,6 +43,6 @@ returns-7 c =
     let c2 = c4.before.before in
     rw (le-leb _ _ c2.before.if1.false, le-leb _ _ c2.if2.false, le-leb _ _ c4.before.if3.false, le-leb _ _ c4.if4.false, le-leb _ _ c.before.if5.false, le-leb _ _ c.if6.false)
 
-pub checked-spec : {M : Type 1} → statement M
-checked-spec =
+pub checked_spec : {M : Type 1} → statement M
+checked_spec =
     tie.close (tie.spec returns returns-2 returns-3 returns-4 returns-5 returns-6 returns-7)

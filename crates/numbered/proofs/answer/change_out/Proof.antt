@@ -21,5 +21,5 @@ returns-2 : tie.Need-returns-2
 unfolding change_out
 returns-2 c = rw (c.before.before.verdict.given.1, c.number.ensures.0, c.number.ensures.1)
 
-pub change-out-spec : {M : Type 1} → statement M
-change-out-spec = tie.close (tie.spec enum_told enum-known-verdict number-requires returns returns-2)
+pub change_out_spec : {M : Type 1} → statement M
+change_out_spec = tie.close (tie.spec enum_told enum-known-verdict number-requires returns returns-2)

@@ -9,5 +9,5 @@ drop-marked-out-requires c κs = search rules
 returns : tie.Need-returns
 returns c = rw c.drop-marked-out.ensures
 
-pub clear-out-spec : {M : Type 1} → statement M
-clear-out-spec = tie.close (tie.spec drop-marked-out-requires returns)
+pub clear_out_spec : {M : Type 1} → statement M
+clear_out_spec = tie.close (tie.spec drop-marked-out-requires returns)

@@ -21,6 +21,6 @@ returns-2 : tie.Need-returns-2
 unfolding drop_marked_out
 returns-2 c = rw (c.before.before.answer2.given.1, c.question.ensures)
 
-pub drop-marked-out-spec : {M : Type 1} → statement M
-drop-marked-out-spec =
+pub drop_marked_out_spec : {M : Type 1} → statement M
+drop_marked_out_spec =
     tie.close (tie.spec enum-known-answer enum-known-answer-2 question-requires returns returns-2)

@@ -9,5 +9,5 @@ change-out-requires c κs = search rules
 returns : tie.Need-returns
 returns c = rw c.change-out.ensures
 
-pub drop-out-spec : {M : Type 1} → statement M
-drop-out-spec = tie.close (tie.spec change-out-requires returns)
+pub drop_out_spec : {M : Type 1} → statement M
+drop_out_spec = tie.close (tie.spec change-out-requires returns)

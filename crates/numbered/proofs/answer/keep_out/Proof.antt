@@ -9,5 +9,5 @@ change-out-requires c κs = search rules
 returns : tie.Need-returns
 returns c = rw c.change-out.ensures
 
-pub keep-out-spec : {M : Type 1} → statement M
-keep-out-spec = tie.close (tie.spec change-out-requires returns)
+pub keep_out_spec : {M : Type 1} → statement M
+keep_out_spec = tie.close (tie.spec change-out-requires returns)

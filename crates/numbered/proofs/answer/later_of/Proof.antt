@@ -18,5 +18,5 @@ returns-2 : tie.Need-returns-2
 unfolding later_of
 returns-2 c = search rules
 
-pub later-of-spec : {M : Type 1} → statement M
-later-of-spec = tie.close (tie.spec enum_told enum-told-2 returns returns-2)
+pub later_of_spec : {M : Type 1} → statement M
+later_of_spec = tie.close (tie.spec enum_told enum-told-2 returns returns-2)

@@ -21,6 +21,6 @@ returns-2 : tie.Need-returns-2
 unfolding net_change_out
 returns-2 c = rw (c.before.before.answer2.given.1, c.question.ensures)
 
-pub net-change-out-spec : {M : Type 1} → statement M
-net-change-out-spec =
+pub net_change_out_spec : {M : Type 1} → statement M
+net_change_out_spec =
     tie.close (tie.spec enum-known-answer enum-known-answer-2 question-requires returns returns-2)

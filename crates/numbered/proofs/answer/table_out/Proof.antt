@@ -24,8 +24,8 @@ returns-2 : tie.Need-returns-2
 unfolding table_out
 returns-2 c = rw (c.before.before.answer2.given.1, c.question.ensures)
 
-pub table-out-spec : {M : Type 1} → statement M
-table-out-spec =
+pub table_out_spec : {M : Type 1} → statement M
+table_out_spec =
     tie.close
     (tie.spec
     enum-known-answer

@@ -68,8 +68,8 @@ same-length-3 c = search rules
 returns-3 : tie.Need-returns-3 invariant-loop decreases-loop
 returns-3 c = search rules
 
-pub read-log-spec : {M : Type 1} → statement M
-read-log-spec =
+pub read_log_spec : {M : Type 1} → statement M
+read_log_spec =
     tie.close
     (tie.spec
     invariant-loop

@@ -1,0 +1,14 @@
+use Prim.Native.Nat.{ℕ, ◌≤◌}
+use mathlib.Core.Path.{◌≡◌, refl, sym, ◌∙◌, ap}
+use lib.ListN.{length, length-set}
+use Rattle.codec.specs.Parts.{moved_up}
+use Rattle.codec.proofs.Moves.{moved_up_none, moved_up_turn}
+use native.Mathlib.Omega.{arith}
+use Rattle.codec.proofs.move_up.Goals as goal
+
+pub loop-i-preserved : goal.loop-i-preserved
+loop-i-preserved c =
+    let a = c.args in
+    let l = c.loop-i in
+    let turn = moved_up_turn a.s.now l.i a.high a.by 0 (omega arith) (omega arith) (omega arith) l.invariant.1.1.1 in
+    (omega arith, (omega arith, (simp length-set (omega arith), turn)))

@@ -1,0 +1,11 @@
+-- `codec::put64` meets its contract: two halves, one right behind the other, joined by `put_halves`. Assumes nothing.
+use mathlib.Core.Path.{◌∙◌}
+use Rattle.codec.proofs.Numbers.{put_halves}
+use Rattle.std.proofs.Common.{rules}
+use native.Mathlib.Omega.{arith}
+use Rattle.codec.proofs.put64.Goals as goal
+
+pub returns : goal.returns
+returns c =
+    let a = c.args in
+    c.put32-2.ensures ∙ rw c.put32.ensures (put_halves 4 4 a.x a.s.now a.at (omega arith))
