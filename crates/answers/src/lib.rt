@@ -7,7 +7,7 @@ ghost use Rattle.answers.specs.Question.{number_of, record_of};
 use model::Refusal;
 
 // The number of the question that was answered no, and the record number that comes with it, 0 if there is none.
-#[derive(Drop)]
+#[derive(Clone, Copy)]
 pub struct Numbered(pub u8, pub u32);
 
 // The numbers of a refusal.

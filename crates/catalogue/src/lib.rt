@@ -16,7 +16,7 @@ ghost use Rattle.catalogue.specs.Entries.{stays_when, flag_at};
 use model::{Entry, Held, Numbers, Place};
 
 // The catalogue by value: the first 16 entries, zero entries where fewer are lent, and how many are lent.
-#[derive(Drop)]
+#[derive(Clone, Copy)]
 pub struct Catalogue {
     pub entries: [Entry; 16],
     pub lent: usize,
@@ -63,7 +63,7 @@ pub fn no_entry() -> Entry
 // ---- the nearest held tables
 
 // A held table: its time, the number of its area, 16 where it is no count file's, and its rows.
-#[derive(Drop)]
+#[derive(Clone, Copy)]
 pub struct Near {
     pub time: u64,
     pub area: u32,
@@ -71,14 +71,14 @@ pub struct Near {
 }
 
 // The nearest found so far at or before a time, and at or after it.
-#[derive(Drop)]
+#[derive(Clone, Copy)]
 pub struct Around {
     pub early: Near,
     pub late: Near,
 }
 
 // The two tables that an outset is chosen from, and how many entries are lent.
-#[derive(Drop)]
+#[derive(Clone, Copy)]
 pub struct Candidates {
     pub early: Held,
     pub late: Held,
@@ -233,7 +233,7 @@ pub fn place_past(at: usize, i: usize, e: Entry, t: u64) -> usize
 // ---- fewer files
 
 // Which count files go: that of a time, or those of a mark.
-#[derive(Drop)]
+#[derive(Clone, Copy)]
 pub enum Going {
     Of(u64),
     Marked(u32),
@@ -242,7 +242,7 @@ pub enum Going {
 // Of each entry whether its file stays, as one number: entry i's digit has the weight 2 ^ i. Beside it the weight of the next
 // entry's digit, how many stay, and how many entries are lent. A number stays in registers where an array would be copied at
 // each entry.
-#[derive(Drop)]
+#[derive(Clone, Copy)]
 pub struct Staying {
     pub flags: u32,
     pub next: u32,

@@ -16,7 +16,7 @@ use catalogue::Candidates;
 use model::{NetChangeAnswer, Numbers, Refusal};
 
 // The numbers of rows of two tables.
-#[derive(Drop)]
+#[derive(Clone, Copy)]
 pub struct Both {
     pub first: u32,
     pub second: u32,

@@ -11,7 +11,7 @@ ghost use Rattle.descent.specs.Descent.{Leaf, Node, Down, Found, Counted, child_
 use model::NodeNumber;
 
 // A level that is wide enough for all leaves, the leaves below each word there, and the inner nodes over a full run.
-#[derive(Drop)]
+#[derive(Clone, Copy)]
 pub struct Top {
     pub level: u32,
     pub unit: u32,

@@ -21,7 +21,7 @@ use catalogue::{Candidates, Staying};
 use model::{DropMarkedAnswer, Entry, Numbers, Refusal, Verdict};
 
 // The numbers then, whether the call was accepted, and the entry that goes to place `at`, those from there up to `end` going up.
-#[derive(Drop)]
+#[derive(Clone, Copy)]
 pub struct Kept {
     pub numbers: Numbers,
     pub verdict: Verdict,
@@ -31,7 +31,7 @@ pub struct Kept {
 }
 
 // The numbers then, whether the call was accepted, and over how many entries those that stay are closed up.
-#[derive(Drop)]
+#[derive(Clone, Copy)]
 pub struct Dropped {
     pub numbers: Numbers,
     pub verdict: Verdict,
@@ -39,7 +39,7 @@ pub struct Dropped {
 }
 
 // The same of a drop by mark, with how many files went.
-#[derive(Drop)]
+#[derive(Clone, Copy)]
 pub struct Cleared {
     pub numbers: Numbers,
     pub answer: DropMarkedAnswer,

@@ -9,7 +9,7 @@ ghost use Rattle.lending.specs.Lengths.{lengths_for, lengths_of, lengths_outcome
 use model::{Checked, Numbers, Refusal, Settings};
 
 // Lengths in the unit of each region: bytes, but words of the index and entries of the catalogue.
-#[derive(Drop)]
+#[derive(Clone, Copy)]
 pub struct Lengths {
     pub log: usize,
     pub index: usize,
@@ -21,7 +21,7 @@ pub struct Lengths {
     pub workspace: usize,
 }
 
-#[derive(Drop)]
+#[derive(Clone, Copy)]
 pub enum LengthsAnswer {
     Lend(Lengths),
     Refused(Refusal),

@@ -36,6 +36,7 @@ none_of_unnamed t a (x ∷ xs) h = by (none_of_unnamed t a xs) (leb x.time t) re
 -- a row of the report's set is a row of the timeslice
 pub has_of_slice : (t : ℕ) (q : Row) (rs : List Rec) → InSlice t q rs → has_row q (timeslice t rs) ≡ true
 unfolding timeslice table up_to
+has_of_slice t q [] s = elim s [ ]
 has_of_slice t q (x ∷ xs) (here k e w n) =
     rw (le-leb _ _ e, eq-eqb _ _ k, unnamed_of_none t x.article xs n)
     (has_in q (row_of x) (table (up_to t xs)) ∙ rw (← w, eqb_self x.article, eqb_self x.count))

@@ -34,6 +34,7 @@ none_of_places t a (r ∷ rs) h = ((λ l e. h 0 (omega arith) e l), none_of_plac
 -- ---- from behind in the log to later in time: times never fall
 
 pub report_of_slice : (t : ℕ) (q : Row) (rs : List Rec) → NeverFalls rs → InSlice t q rs → InReport t q rs
+report_of_slice t q [] up s = elim s [ ]
 report_of_slice t q (r ∷ rs) up (here k e w n) =
     record { place = 0; in_log = omega arith; inserts = k; at_or_before = e; row_is = w; not_countered = later }
   where

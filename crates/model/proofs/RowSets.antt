@@ -1,6 +1,6 @@
 -- Which rows and articles a list of rows has; ascending rows are fixed by that. Assumes nothing.
 use Prim.Native.Nat.{ℕ, suc, ◌≤◌}
-use mathlib.Core.Path.{◌≡◌, refl, sym, ap, ◌∙◌}
+use mathlib.Core.Path.{◌≡◌, refl, sym, ap, subst, ◌∙◌}
 use mathlib.Core.List.{List, [], ◌∷◌}
 use mathlib.Core.Bool.{Bool, true, false, not, ◌&&◌, ◌||◌, false≢true}
 use native.Mathlib.Omega.{arith}
@@ -121,7 +121,10 @@ present a (x ∷ xs) e = by (present a xs) (eqb x.article a) refl
   where
     by : (lacks a xs ≡ false → has_row (row a (count_of a xs)) xs ≡ true) → (t : Bool) → eqb x.article a ≡ t → has_row (row a (count_of a (x ∷ xs))) (x ∷ xs) ≡ true
     by ih true f = rw (f, eqb_self x.count)
-    by ih false f = rw f (ih (rw f at e))
+    by ih false f =
+        let s : count_of a (x ∷ xs) ≡ count_of a xs = rw f in
+        let P : ℕ → Type 0 = λ k. has_row (row a k) (x ∷ xs) ≡ true in
+        subst P (sym s) (rw f (ih (rw f at e)))
 
 -- and of ascending rows no other
 pub count_has : (lo : ℕ) (r : Row) (T : List Row) → Ascending lo T → has_row r T ≡ true → count_of r.article T ≡ r.count

@@ -6,19 +6,19 @@ ghost use Rattle.model.specs.Answers.{checked_outcome};
 ghost use Rattle.model.specs.Settings.{settings_of};
 
 // A page position: how many page times are at or before a time, less one (01, "Packed tree").
-#[derive(Drop)]
+#[derive(Clone, Copy)]
 pub struct PagePosition(pub u32);
 
 // The number of a node of the index, in the order of allocation.
-#[derive(Drop)]
+#[derive(Clone, Copy)]
 pub struct NodeNumber(pub u32);
 
 // The number of a record of the log, from 0.
-#[derive(Drop)]
+#[derive(Clone, Copy)]
 pub struct RecordNumber(pub u32);
 
 // Order d, records per page N and row limit R, each within its limits when made by `checked`.
-#[derive(Drop)]
+#[derive(Clone, Copy)]
 pub struct Settings {
     pub order: u16,
     pub page: u16,
@@ -27,7 +27,7 @@ pub struct Settings {
 
 // The store's numbers, passed by value. A stranger's may hold anything: question 1 tests them.
 #[repr(C)]
-#[derive(Drop)]
+#[derive(Clone, Copy)]
 pub struct Numbers {
     // order d of the index
     pub order: u16,
@@ -46,7 +46,7 @@ pub struct Numbers {
 }
 
 // A record of the log, all six fields of it (01, "Log bytes").
-#[derive(Drop)]
+#[derive(Clone, Copy)]
 pub struct Record {
     pub size: u16,
     pub kind: u16,
@@ -58,7 +58,7 @@ pub struct Record {
 
 // An entry of the catalogue of count files: the file's time, its number of rows and its mark (02, wish 3).
 #[repr(C)]
-#[derive(Drop)]
+#[derive(Clone, Copy)]
 pub struct Entry {
     pub time: u64,
     pub rows: u32,
@@ -67,7 +67,7 @@ pub struct Entry {
 
 // Why a call is refused: the first of its questions that was answered no. Each variant's number in 01
 // is given once, by `refusal` of specs/Answers.
-#[derive(Drop)]
+#[derive(Clone, Copy)]
 pub enum Refusal {
     Header,
     Order,
@@ -89,53 +89,53 @@ pub enum Refusal {
     WrongMark,
 }
 
-#[derive(Drop)]
+#[derive(Clone, Copy)]
 pub enum Checked {
     InRange(Settings),
     Refused(Refusal),
 }
 
 // What a call that may change the store answers: the numbers as they then are, and whether it was accepted.
-#[derive(Drop)]
+#[derive(Clone, Copy)]
 pub struct Changed {
     pub numbers: Numbers,
     pub verdict: Verdict,
 }
 
-#[derive(Drop)]
+#[derive(Clone, Copy)]
 pub enum Verdict {
     Accepted,
     Refused(Refusal),
 }
 
 // The position of a time: its page, and how many requests, which are records, are at or before it.
-#[derive(Drop)]
+#[derive(Clone, Copy)]
 pub struct Position {
     pub page: PagePosition,
     pub requests: u32,
 }
 
-#[derive(Drop)]
+#[derive(Clone, Copy)]
 pub enum PositionAnswer {
     At(Position),
     Refused(Refusal),
 }
 
 // The side of the wanted time on which the outset used lies.
-#[derive(Drop)]
+#[derive(Clone, Copy)]
 pub enum Side {
     Earlier,
     Later,
 }
 
-#[derive(Drop)]
+#[derive(Clone, Copy)]
 pub enum TableAnswer {
     Table { rows: u32, side: Side, between: u32 },
     Refused(Refusal),
 }
 
 // Where an outset's rows lie: nowhere (the empty table of time 0), in an area, or in the current table.
-#[derive(Drop)]
+#[derive(Clone, Copy)]
 pub enum Place {
     Empty,
     Area(u32),
@@ -143,7 +143,7 @@ pub enum Place {
 }
 
 // A table that is held: its time, where its rows lie and how many they are.
-#[derive(Drop)]
+#[derive(Clone, Copy)]
 pub struct Held {
     pub time: u64,
     pub place: Place,
@@ -151,14 +151,14 @@ pub struct Held {
 }
 
 // The outset used for a time, its side and the requests between the two, an update counting two.
-#[derive(Drop)]
+#[derive(Clone, Copy)]
 pub struct Chosen {
     pub outset: Held,
     pub side: Side,
     pub between: u32,
 }
 
-#[derive(Drop)]
+#[derive(Clone, Copy)]
 pub enum ViewAnswer {
     Outset {
         place: Place,
@@ -169,28 +169,28 @@ pub enum ViewAnswer {
     Refused(Refusal),
 }
 
-#[derive(Drop)]
+#[derive(Clone, Copy)]
 pub enum NetChangeAnswer {
     Entries(u32),
     Refused(Refusal),
 }
 
 // The units on hand at a time.
-#[derive(Drop)]
+#[derive(Clone, Copy)]
 pub enum UnitsAnswer {
     Units(u64),
     Refused(Refusal),
 }
 
 // The units on hand at a second time less those at a first.
-#[derive(Drop)]
+#[derive(Clone, Copy)]
 pub enum DifferenceAnswer {
     Difference(i64),
     Refused(Refusal),
 }
 
 // How many count files of a mark went.
-#[derive(Drop)]
+#[derive(Clone, Copy)]
 pub enum DropMarkedAnswer {
     Gone(u32),
     Refused(Refusal),

@@ -11,7 +11,7 @@ ghost use Rattle.model.specs.NetChange.{change_bytes};
 ghost use Rattle.netting.specs.Merge.{change_at, Underway, Head, Passes, Merges};
 
 // How far a merge has come: the rows passed of either table, and the entries written.
-#[derive(Drop)]
+#[derive(Clone, Copy)]
 pub struct Way {
     pub left: usize,
     pub right: usize,

@@ -13,7 +13,7 @@ use opening::Started;
 // The answer of a call that may change the store: the numbers then, the question answered no, or 0, and at 17 the record
 // number.
 #[repr(C)]
-#[derive(Drop)]
+#[derive(Clone, Copy)]
 pub struct YkChange {
     pub numbers: Numbers,
     pub question: u8,
@@ -22,7 +22,7 @@ pub struct YkChange {
 
 // The answer of a position: the page, and the requests at or before the time.
 #[repr(C)]
-#[derive(Drop)]
+#[derive(Clone, Copy)]
 pub struct YkPosition {
     pub question: u8,
     pub page: u32,
@@ -31,7 +31,7 @@ pub struct YkPosition {
 
 // The answer of a table; `later` is 1 where the outset used lies at or after the time answered, else 0.
 #[repr(C)]
-#[derive(Drop)]
+#[derive(Clone, Copy)]
 pub struct YkTable {
     pub question: u8,
     pub rows: u32,
@@ -40,7 +40,7 @@ pub struct YkTable {
 }
 
 #[repr(C)]
-#[derive(Drop)]
+#[derive(Clone, Copy)]
 pub struct YkNetChange {
     pub question: u8,
     pub entries: u32,
@@ -48,7 +48,7 @@ pub struct YkNetChange {
 
 // The answer of the units at a time.
 #[repr(C)]
-#[derive(Drop)]
+#[derive(Clone, Copy)]
 pub struct YkUnits {
     pub question: u8,
     pub units: u64,
@@ -56,7 +56,7 @@ pub struct YkUnits {
 
 // The answer of the units between two times, the second less the first.
 #[repr(C)]
-#[derive(Drop)]
+#[derive(Clone, Copy)]
 pub struct YkDifference {
     pub question: u8,
     pub units: i64,
@@ -64,7 +64,7 @@ pub struct YkDifference {
 
 // The answer of a drop by mark: the numbers then, and how many count files went.
 #[repr(C)]
-#[derive(Drop)]
+#[derive(Clone, Copy)]
 pub struct YkDropMarked {
     pub numbers: Numbers,
     pub question: u8,
@@ -72,14 +72,14 @@ pub struct YkDropMarked {
 }
 
 // What a start answers, and how many entries of the catalogue are to be cleared.
-#[derive(Drop)]
+#[derive(Clone, Copy)]
 pub struct Begun {
     pub change: YkChange,
     pub clears: usize,
 }
 
 // What a keep answers, and the entry that goes to place `at`, those from there up to `end` going up.
-#[derive(Drop)]
+#[derive(Clone, Copy)]
 pub struct KeptOut {
     pub change: YkChange,
     pub entry: Entry,
@@ -88,14 +88,14 @@ pub struct KeptOut {
 }
 
 // What a drop answers, and over how many entries those that stay are closed up.
-#[derive(Drop)]
+#[derive(Clone, Copy)]
 pub struct DroppedOut {
     pub change: YkChange,
     pub over: usize,
 }
 
 // The same of a drop by mark.
-#[derive(Drop)]
+#[derive(Clone, Copy)]
 pub struct ClearedOut {
     pub answer: YkDropMarked,
     pub over: usize,

@@ -7,7 +7,7 @@ use lending::LengthsAnswer;
 
 // The question answered no, or 0; and the lengths, all 0 where one is.
 #[repr(C)]
-#[derive(Drop)]
+#[derive(Clone, Copy)]
 pub struct YkLengths {
     pub question: u8,
     pub log: usize,

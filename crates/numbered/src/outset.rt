@@ -9,7 +9,7 @@ use model::{Place, ViewAnswer};
 // The answer of a view: the outset's place (0 empty, 1 an area, 2 the current table), the number of its area, its rows, side
 // and the requests between; and the part that its rows are, in bytes of the areas or of the current table.
 #[repr(C)]
-#[derive(Drop)]
+#[derive(Clone, Copy)]
 pub struct YkView {
     pub question: u8,
     pub place: u8,
@@ -22,7 +22,7 @@ pub struct YkView {
 }
 
 // A part of a region: its first byte and its length.
-#[derive(Drop)]
+#[derive(Clone, Copy)]
 pub struct Span {
     pub start: usize,
     pub length: usize,

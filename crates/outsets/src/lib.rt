@@ -11,7 +11,7 @@ ghost use Rattle.outsets.specs.Used.{NearestIs};
 use model::{Chosen, Held, Numbers, Position, Side};
 
 // The outset used for a time, and the position of its own time.
-#[derive(Drop)]
+#[derive(Clone, Copy)]
 pub struct Used {
     pub chosen: Chosen,
     pub at: Position,

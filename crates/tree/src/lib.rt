@@ -14,7 +14,7 @@ ghost use Rattle.tree.specs.Append.{separated, with_leaf, append_of, Needed};
 use model::NodeNumber;
 
 // Of the separator of leaf m: what q leaves modulo d, and how many nodes a full run of d^v leaves has.
-#[derive(Drop)]
+#[derive(Clone, Copy)]
 pub struct Stripped {
     pub digit: u32,
     pub full: u32,

@@ -10,7 +10,7 @@ use descent::keys_up_to;
 use tree::{append, index_words};
 
 // The leaf that opened the node of a separator, and the word of that node.
-#[derive(Drop)]
+#[derive(Clone, Copy)]
 pub struct Place {
     pub host: usize,
     pub slot: usize,
