@@ -19,9 +19,9 @@ use Rattle.model.proofs.AppendLaws.{timeslice_earlier}
 use Rattle.model.proofs.PageLaws.{length_page_times}
 use Rattle.model.proofs.TimeLaws.{timeslice_rows}
 use Rattle.tree.proofs.Written.{length-with}
-use Rattle.log.proofs.RecordBytes.{length-records-bytes, are_bytes-records}
-use Rattle.log.proofs.Appends.{all_fit_append, log-append}
-use Rattle.log.proofs.HeaderLaws.{length-header-bytes, are_bytes-header, take-header}
+use Rattle.logs.proofs.RecordBytes.{length-records-bytes, are_bytes-records}
+use Rattle.logs.proofs.Appends.{all_fit_append, log-append}
+use Rattle.logs.proofs.HeaderLaws.{length-header-bytes, are_bytes-header, take-header}
 use Rattle.rows.proofs.TableBytes.{are_bytes-table}
 use Rattle.model.specs.Facts.{FilesAre, AuditedFacts, InOrder}
 use Rattle.claims.specs.Following.{MayFollow}

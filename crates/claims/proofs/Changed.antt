@@ -20,7 +20,7 @@ use Rattle.model.specs.Changes.{appended, room_for, insert_questions, present_qu
 use Rattle.model.specs.Calls.{Call, CallFits}
 use Rattle.model.proofs.Compare.{and_left, and_right}
 use Rattle.model.proofs.AppendLaws.{last_time_snoc, last_time_update, legal-insertion, legal-deletion, legal_update}
-use Rattle.log.specs.Widths.{RecordFits, RecordsFit}
+use Rattle.logs.specs.Widths.{RecordFits, RecordsFit}
 use Rattle.model.specs.Facts.{AuditedFacts, InOrder}
 use Rattle.claims.specs.Following.{MayFollow}
 use Rattle.model.proofs.AuditLaws.{audited_facts}

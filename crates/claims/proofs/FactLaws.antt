@@ -22,8 +22,8 @@ use Rattle.model.proofs.RecordLaws.{length-records}
 use Rattle.model.proofs.SmallLaws.{below_timeslice}
 use Rattle.model.proofs.TimeLaws.{timeslice_rows, timeslice-last}
 use Rattle.tree.proofs.Written.{with_packed}
-use Rattle.log.specs.Widths.{RecordsFit}
-use Rattle.log.proofs.Appends.{all_fit_records}
+use Rattle.logs.specs.Widths.{RecordsFit}
+use Rattle.logs.proofs.Appends.{all_fit_records}
 use Rattle.model.specs.Facts.{AuditedFacts}
 
 -- the number of a state's records is that of its list

@@ -13,7 +13,7 @@ use Rattle.model.specs.Shape.{opens, padded, leaves_of, leaf_words, separator, t
 use Rattle.model.specs.Numbering.{node_word}
 use Rattle.model.specs.Pages.{page_times_from}
 use Rattle.model.specs.Tree.{allotted, tree_of, with_nodes, with_tree}
-use Rattle.log.specs.Widths.{RecordsFit}
+use Rattle.logs.specs.Widths.{RecordsFit}
 
 -- every number of a list is below b; what lies past its end reads as 0
 abbrev pub Below : ℕ → List ℕ → Type 0

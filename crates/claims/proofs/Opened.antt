@@ -26,9 +26,9 @@ use Rattle.model.proofs.PageLaws.{length_page_times}
 use Rattle.model.proofs.RecordLaws.{length-records}
 use Rattle.model.proofs.TimeLaws.{timeslice_rows}
 use Rattle.tree.proofs.Written.{length-with}
-use Rattle.log.specs.Headers.{begins_log}
-use Rattle.log.proofs.Appends.{all_fit_records}
-use Rattle.log.proofs.HeaderLaws.{header_of_fields, begins_log_true}
+use Rattle.logs.specs.Headers.{begins_log}
+use Rattle.logs.proofs.Appends.{all_fit_records}
+use Rattle.logs.proofs.HeaderLaws.{header_of_fields, begins_log_true}
 use Rattle.rows.proofs.TableBytes.{are_bytes-table}
 use Rattle.model.specs.Facts.{FilesAre, AuditedFacts, InOrder}
 use Rattle.model.proofs.AuditLaws.{audited_of_facts}

@@ -12,9 +12,9 @@ use Rattle.model.specs.Facts.{InOrder}
 use Rattle.model.specs.Demands.{OneLog, OneTable}
 use Rattle.model.proofs.AuditLaws.{audited_facts}
 use Rattle.model.proofs.LateLaws.{rows_as_asked}
-use Rattle.log.specs.Headers.{HeaderReads}
-use Rattle.log.proofs.HeaderLaws.{header_read, header-fits_of_passable}
-use Rattle.log.proofs.RecordLists.{records-front}
+use Rattle.logs.specs.Headers.{HeaderReads}
+use Rattle.logs.proofs.HeaderLaws.{header_read, header-fits_of_passable}
+use Rattle.logs.proofs.RecordLists.{records-front}
 use Rattle.claims.proofs.SecondDemands.{table_answered, table_stands}
 
 -- the log's header reads as the numbers of either state

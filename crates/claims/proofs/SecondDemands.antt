@@ -27,9 +27,9 @@ use Rattle.model.proofs.ReportLaws.{asc_timeslice}
 use Rattle.model.proofs.ReportedLaws.{has_iff_report}
 use Rattle.tree.proofs.Packings.{tree_length}
 use Rattle.tree.proofs.Written.{with_packed}
-use Rattle.log.specs.Headers.{begins_log, HeaderReads}
-use Rattle.log.proofs.HeaderLaws.{header_read, header-fits_of_passable}
-use Rattle.log.proofs.RecordLists.{records-front}
+use Rattle.logs.specs.Headers.{begins_log, HeaderReads}
+use Rattle.logs.proofs.HeaderLaws.{header_read, header-fits_of_passable}
+use Rattle.logs.proofs.RecordLists.{records-front}
 use Rattle.model.specs.Facts.{AuditedFacts, InOrder}
 use Rattle.model.proofs.AuditLaws.{audited_facts, audited_sound}
 use Rattle.claims.proofs.Regions.{answered, none-asked, table-front}

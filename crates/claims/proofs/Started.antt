@@ -29,7 +29,7 @@ use Rattle.model.proofs.PageCounts.{pages_zero}
 use Rattle.tree.proofs.Leaves.{leaves_none}
 use Rattle.tree.proofs.Written.{packed_with}
 use Rattle.tree.proofs.Fillings.{packed_none}
-use Rattle.log.proofs.HeaderLaws.{length-header-bytes, are_bytes-header, take-header}
+use Rattle.logs.proofs.HeaderLaws.{length-header-bytes, are_bytes-header, take-header}
 use Rattle.rows.proofs.TableBytes.{table-bytes_empty}
 use Rattle.model.specs.Facts.{FilesAre, AuditedFacts, InOrder}
 use Rattle.model.proofs.AuditLaws.{audited_of_facts}

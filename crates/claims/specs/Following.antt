@@ -4,7 +4,7 @@ use Rattle.model.specs.Records.{Rec, no_record}
 use Rattle.model.specs.Legal.{legal, last_time}
 use Rattle.model.specs.Pages.{index_need}
 use Rattle.model.specs.Memory.{State, log_of}
-use Rattle.log.specs.Widths.{RecordsFit}
+use Rattle.logs.specs.Widths.{RecordsFit}
 
 -- the records `new` may follow at time t: together with those that stand they are legal and end at t, all are later than
 -- the last request, they fit their fields, and log and index have room for them

@@ -22,7 +22,7 @@ use Rattle.model.specs.Queries.{net_of}
 use Rattle.model.specs.Files.{files_of, is_kept, keep_of}
 use Rattle.model.proofs.Compare.{and_both}
 use Rattle.model.proofs.AuditLaws.{capacity_entries, capacity_areas}
-use Rattle.log.specs.Headers.{begins_log}
+use Rattle.logs.specs.Headers.{begins_log}
 use Rattle.lending.specs.declared.Lengths.{Lengths}
 use Rattle.lending.specs.Lengths.{lengths_for, lengths_of}
 use Rattle.lending.specs.Enough.{SettingsAre, HeaderSays, NoLess}

@@ -13,7 +13,7 @@ use Rattle.model.specs.Files.{files_of, is_kept, keep_of}
 use Rattle.model.specs.Promises.{refused_by}
 use Rattle.model.specs.Calls.{Start, fresh, opening, StartFits, begun, Call, AllFit, Said, changed, positioned, written, viewed, netted, totalled, differed, cleared, audited, answer_of, Accepted}
 use Rattle.model.specs.Demands.{left}
-use Rattle.log.specs.Headers.{begins_log}
+use Rattle.logs.specs.Headers.{begins_log}
 use Rattle.lending.specs.declared.Lengths.{Lengths}
 
 -- each of the five regions is at least as long

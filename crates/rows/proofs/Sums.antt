@@ -25,7 +25,8 @@ pub sum_in_rows : (T : List Row) (rest : List ℕ) → Small T → sum_in (rows_
 unfolding RowsBelow rows_bytes sum_in sum_of
 sum_in_rows [] rest s = refl
 sum_in_rows (x ∷ xs) rest s =
-    rw append_assoc (sum_in_front x (rows_bytes xs ++ rest) (length xs) s.0.1 ∙ ap (λ n. x.count + n) (sum_in_rows xs rest s.1))
+    let e : rows_bytes (x ∷ xs) ++ rest ≡ row_bytes x ++ (rows_bytes xs ++ rest) = append_assoc (row_bytes x) (rows_bytes xs) rest in
+    ap (λ ys. sum_in ys (suc (length xs))) e ∙ (sum_in_front x (rows_bytes xs ++ rest) (length xs) s.0.1 ∙ ap (λ n. x.count + n) (sum_in_rows xs rest s.1))
 
 -- one row more
 pub sum_next : (rows : List ℕ) (i : ℕ) → sum_in rows (i + 1) ≡ sum_in rows i + count_at rows i

@@ -18,7 +18,7 @@ fn time_in(b: &[u8], stop: usize, k: usize) -> u64
     ensures { result ≡ time_in b.now stop k }
 {
     if k < stop {
-        return log::time_at(b, k);
+        return logs::time_at(b, k);
     }
     0
 }
