@@ -6,14 +6,13 @@ use mathlib.Core.List.{List, [], ◌∷◌, ◌++◌, append_assoc, map}
 use mathlib.Core.Bool.{Bool, true, false, not, cond}
 use native.Mathlib.Omega.{arith}
 use native.Mathlib.Nat.{add-zero}
-use lib.ListN.{length, take, drop, replicate, length-append, length-replicate, length-map, replicate-append-replicate}
+use lib.ListN.{length, take, drop, replicate, length-append, length-replicate, replicate-append-replicate}
 use lib.Seq.{take-add, drop-drop, length-take-le}
 use Rattle.codec.specs.Parts.{zeros, put, part}
 use Rattle.codec.proofs.PartLaws.{length_part, length-put, drop-put}
 use Rattle.model.specs.declared.Entry.{Entry}
-use Rattle.model.specs.declared.Numbers.{Numbers}
-use Rattle.model.specs.Memory.{State, state}
-use Rattle.model.specs.Files.{File, files_in, files_of, no_file, areas_bytes, entry_of, staying, closed_up, with_files}
+use Rattle.model.specs.Memory.{State}
+use Rattle.model.specs.Files.{File, files_in, files_of, no_file, areas_bytes, entry_of, staying, closed_up}
 use Rattle.model.specs.Promises.{Beyond}
 
 -- ---- entries and areas of files one behind the other

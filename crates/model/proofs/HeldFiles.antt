@@ -13,7 +13,7 @@ use Rattle.model.specs.declared.Held.{Held}
 use Rattle.model.specs.declared.Place.{Place}
 use Rattle.model.specs.declared.Place.TheVariants.{Empty, Area, Current}
 use Rattle.model.specs.Memory.{State}
-use Rattle.model.specs.Outset.{empty_table, current_table, files_from, files_held, held}
+use Rattle.model.specs.Outset.{empty_table, current_table, files_from, files_held}
 use Rattle.model.specs.Files.{files_in, files_of, is_kept}
 use Rattle.model.specs.Demands.{FileHeld}
 use Rattle.model.proofs.Compare.{or_right}

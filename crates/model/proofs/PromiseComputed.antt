@@ -2,10 +2,10 @@
 -- alone. Assumes nothing.
 use Prim.Native.Nat.{ℕ, ◌≤◌}
 use mathlib.Core.Path.{◌≡◌, refl}
-use mathlib.Core.List.{List, [], ◌∷◌, map}
-use mathlib.Core.Bool.{Bool, true, false}
+use mathlib.Core.List.{[], ◌∷◌, map}
+use mathlib.Core.Bool.{true, false}
 use native.Mathlib.Omega.{arith}
-use Rattle.model.specs.Answers.{Outcome, answers, refuses, refuses_at, Question, question, asks}
+use Rattle.model.specs.Answers.{Outcome, answers, refuses, refuses_at, question, asks}
 use Rattle.model.specs.Promises.{refused_number, by_one_of, IfAnswered}
 
 pub refused_numbers : map (λ (o : Outcome ℕ). refused_number o) (answers 3 ∷ refuses 13 ∷ refuses_at 17 4 ∷ []) ≡ 0 ∷ 13 ∷ 17 ∷ []

@@ -1,6 +1,6 @@
 -- The packed tree over a list of keys (01, "Packed tree"), and an index that holds it.
 -- `tree_of`, `with_tree`, `Packed` and `page_position` are what contracts cite. Assumes nothing.
-use Rattle.std.specs.Prelude.{ℕ, zero, suc, ◌+◌, ◌-◌, ◌*◌, ◌/◌, ◌%◌, ◌≤◌, ◌<◌, ◌≡◌, ◌⊎◌, not, cond, ◌&&◌, length, get_or, take, drop, replicate, leb, eqb}
+use Rattle.std.specs.Prelude.{ℕ, zero, suc, ◌+◌, ◌-◌, ◌/◌, ◌%◌, ◌≤◌, ◌<◌, ◌≡◌, ◌⊎◌, not, cond, ◌&&◌, length, get_or, take, drop, replicate, leb, eqb}
 use mathlib.Core.List.{List, [], ◌∷◌, ◌++◌, Memᴰ}
 use Rattle.codec.specs.Parts.{zeros, put}
 use Rattle.model.specs.Shape.{opens, host, leaves_of, leaf_words, inner_words}

@@ -2,7 +2,6 @@
 use Rattle.model.specs.Answers.{refusal}
 use Rattle.model.specs.Promises.{refused_number}
 use Rattle.answers.specs.Question.{record_in}
-use Rattle.std.proofs.Common.{rules}
 use Rattle.answers.proofs.number.Goals as goal
 
 pub returns-in-Header : goal.returns-in-Header

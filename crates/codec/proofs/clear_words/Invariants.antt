@@ -2,8 +2,7 @@
 -- from k on. Assumes nothing.
 use Prim.Native.Nat.{◌-◌}
 use lib.ListN.{length}
-use Rattle.codec.proofs.Fills.{FilledTo, filled_none, filled_set, filled_all}
-use native.Mathlib.Omega.{arith}
+use Rattle.codec.proofs.Fills.{FilledTo}
 use Rattle.codec.proofs.clear_words.Given as goal
 
 abbrev pub invariant-loop-k : goal.invariant-loop-k

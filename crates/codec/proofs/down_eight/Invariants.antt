@@ -1,13 +1,9 @@
 -- `codec::down_eight` meets its contract. Invariant: j bytes have come down, and all else is as it was. Measure: the bytes
 -- still to move. Assumes nothing.
 use Prim.Native.Nat.{◌≤◌, ◌-◌}
-use mathlib.Core.Path.{◌≡◌, refl, ◌∙◌, ap}
-use native.Mathlib.Nat.{zero-add}
-use lib.ListN.{length, length-set, drop}
-use lib.Seq.{paste-zero}
+use mathlib.Core.Path.{◌≡◌}
+use lib.ListN.{length}
 use Rattle.codec.specs.Parts.{moved_down}
-use Rattle.codec.proofs.Moves.{moved_down_turn}
-use native.Mathlib.Omega.{arith}
 use Rattle.codec.proofs.down_eight.Given as goal
 
 abbrev pub invariant-loop-j : goal.invariant-loop-j

@@ -1,7 +1,6 @@
 -- `codec::fill_four` meets its contract: two words of zeros, and two right behind them. Assumes nothing.
 use mathlib.Core.Path.{◌∙◌}
 use Rattle.codec.proofs.PartLaws.{put-zeros_more}
-use Rattle.std.proofs.Common.{rules}
 use native.Mathlib.Omega.{arith}
 use Rattle.codec.proofs.fill_four.Goals as goal
 

@@ -1,11 +1,10 @@
 -- `codec::fill_short` meets its contract: the first k bytes and the last k fill a stretch of k to 2 k bytes, and the first, the
 -- middle and the last one a stretch of up to three. Assumes nothing.
 use Prim.Native.Nat.{◌-◌}
-use mathlib.Core.Path.{refl, ◌∙◌}
-use lib.ListN.{length, length-set}
+use mathlib.Core.Path.{◌∙◌}
+use lib.ListN.{length}
 use Rattle.codec.proofs.Numbers.{bytes_zero}
-use Rattle.codec.proofs.Fills.{filled_none, filled_all, filled_ends, filled-three}
-use Rattle.std.proofs.Common.{rules}
+use Rattle.codec.proofs.Fills.{filled_ends, filled-three}
 use native.Mathlib.Omega.{arith}
 use Rattle.codec.proofs.fill_short.Goals as goal
 

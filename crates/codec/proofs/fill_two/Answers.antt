@@ -2,7 +2,6 @@
 use mathlib.Core.Path.{◌∙◌}
 use Rattle.codec.proofs.PartLaws.{put-zeros_more}
 use Rattle.codec.proofs.Numbers.{bytes_zero}
-use Rattle.std.proofs.Common.{rules}
 use native.Mathlib.Omega.{arith}
 use Rattle.codec.proofs.fill_two.Goals as goal
 

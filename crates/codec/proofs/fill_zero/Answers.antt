@@ -2,7 +2,7 @@ use Prim.Native.Nat.{◌+◌, ◌-◌, ◌*◌}
 use mathlib.Core.Path.{◌≡◌}
 use lib.ListN.{length}
 use Rattle.codec.proofs.Numbers.{bytes_zero}
-use Rattle.codec.proofs.Fills.{FilledTo, filled_none, filled_put, filled-last}
+use Rattle.codec.proofs.Fills.{filled_put, filled-last}
 use native.Mathlib.Omega.{arith}
 use Rattle.codec.proofs.fill_zero.Goals as goal
 

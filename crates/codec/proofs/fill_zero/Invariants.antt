@@ -1,11 +1,7 @@
 -- `codec::fill_zero` meets its contract. Invariant: the words before `word` are zero, and the rest is as it was where the loop
 -- began, its last eight bytes zero. Measure: the words left. Assumes nothing.
-use Prim.Native.Nat.{◌+◌, ◌-◌, ◌*◌}
-use mathlib.Core.Path.{◌≡◌}
-use lib.ListN.{length}
-use Rattle.codec.proofs.Numbers.{bytes_zero}
-use Rattle.codec.proofs.Fills.{FilledTo, filled_none, filled_put, filled-last}
-use native.Mathlib.Omega.{arith}
+use Prim.Native.Nat.{◌-◌, ◌*◌}
+use Rattle.codec.proofs.Fills.{FilledTo}
 use Rattle.codec.proofs.fill_zero.Given as goal
 
 abbrev pub invariant-loop-word : goal.invariant-loop-word

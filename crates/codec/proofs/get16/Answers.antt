@@ -1,10 +1,7 @@
 -- `codec::get16` meets its contract: a byte and 256 times the next, each below 256. Assumes nothing.
 use native.Mathlib.Nat.{add-zero}
 use native.Mathlib.Numerals.{add-one}
-use Prim.Native.Nat.{◌+◌}
 use Rattle.codec.specs.LittleEndian.{number}
-use Rattle.std.proofs.Common.{rules}
-use native.Mathlib.Omega.{arith}
 use Rattle.codec.proofs.get16.Goals as goal
 
 pub returns : goal.returns

@@ -1,7 +1,6 @@
 -- `codec::get64` meets its contract: two halves, joined by `number_add`. Assumes nothing.
 use mathlib.Core.Path.{sym}
 use Rattle.codec.proofs.Numbers.{number_add}
-use Rattle.std.proofs.Common.{rules}
 use Rattle.codec.proofs.get64.Goals as goal
 
 pub returns : goal.returns

@@ -1,8 +1,4 @@
-use Prim.Native.Nat.{◌≤◌, ◌-◌}
-use mathlib.Core.Path.{◌≡◌, refl, ◌∙◌, ap}
-use lib.ListN.{length, length-set, drop}
-use lib.Seq.{paste-zero}
-use Rattle.codec.specs.Parts.{moved_down}
+use lib.ListN.{length-set}
 use Rattle.codec.proofs.Moves.{moved_down_turn}
 use native.Mathlib.Omega.{arith}
 use Rattle.codec.proofs.move_down.Goals as goal

@@ -1,12 +1,9 @@
 -- `codec::move_down` meets its contract. Invariant: i bytes have been copied down, and all else is as it was.
 -- Measure: the bytes still to copy. Assumes nothing.
 use Prim.Native.Nat.{◌≤◌, ◌-◌}
-use mathlib.Core.Path.{◌≡◌, refl, ◌∙◌, ap}
-use lib.ListN.{length, length-set, drop}
-use lib.Seq.{paste-zero}
+use mathlib.Core.Path.{◌≡◌}
+use lib.ListN.{length}
 use Rattle.codec.specs.Parts.{moved_down}
-use Rattle.codec.proofs.Moves.{moved_down_turn}
-use native.Mathlib.Omega.{arith}
 use Rattle.codec.proofs.move_down.Given as goal
 
 abbrev pub invariant-loop-i : goal.invariant-loop-i

@@ -1,8 +1,5 @@
-use Prim.Native.Nat.{ℕ, ◌≤◌}
-use mathlib.Core.Path.{◌≡◌, refl, sym, ◌∙◌, ap}
-use lib.ListN.{length, length-set}
-use Rattle.codec.specs.Parts.{moved_up}
-use Rattle.codec.proofs.Moves.{moved_up_none, moved_up_turn}
+use lib.ListN.{length-set}
+use Rattle.codec.proofs.Moves.{moved_up_turn}
 use native.Mathlib.Omega.{arith}
 use Rattle.codec.proofs.move_up.Goals as goal
 

@@ -1,11 +1,9 @@
 -- `codec::move_up` meets its contract. Invariant: the bytes from i up to `high` have moved up, and all else is as it was.
 -- Measure: i. Assumes nothing.
-use Prim.Native.Nat.{ℕ, ◌≤◌}
-use mathlib.Core.Path.{◌≡◌, refl, sym, ◌∙◌, ap}
-use lib.ListN.{length, length-set}
+use Prim.Native.Nat.{◌≤◌}
+use mathlib.Core.Path.{◌≡◌}
+use lib.ListN.{length}
 use Rattle.codec.specs.Parts.{moved_up}
-use Rattle.codec.proofs.Moves.{moved_up_none, moved_up_turn}
-use native.Mathlib.Omega.{arith}
 use Rattle.codec.proofs.move_up.Given as goal
 
 abbrev pub invariant-loop-i : goal.invariant-loop-i

@@ -3,10 +3,8 @@ use Prim.Native.Nat.{◌/◌, ◌%◌}
 use mathlib.Core.Path.{◌≡◌}
 use mathlib.Core.List.{[], ◌∷◌}
 use native.Mathlib.Numerals.{add-one}
-use lib.ListN.{length-set}
 use Rattle.codec.specs.LittleEndian.{bytes}
 use Rattle.codec.proofs.PartLaws.{put_sets}
-use Rattle.std.proofs.Common.{rules}
 use native.Mathlib.Omega.{arith}
 use Rattle.codec.proofs.put16.Goals as goal
 

@@ -1,7 +1,6 @@
 -- `codec::put64` meets its contract: two halves, one right behind the other, joined by `put_halves`. Assumes nothing.
 use mathlib.Core.Path.{◌∙◌}
 use Rattle.codec.proofs.Numbers.{put_halves}
-use Rattle.std.proofs.Common.{rules}
 use native.Mathlib.Omega.{arith}
 use Rattle.codec.proofs.put64.Goals as goal
 

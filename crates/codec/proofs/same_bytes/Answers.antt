@@ -1,6 +1,5 @@
-use Prim.Native.Nat.{◌≤◌, ◌-◌}
-use mathlib.Core.Path.{◌≡◌, refl, sym, ap, ◌∙◌}
-use lib.ListN.{length, take}
+use mathlib.Core.Path.{sym, ap, ◌∙◌}
+use lib.ListN.{length}
 use Rattle.codec.specs.LittleEndian.{AreBytes}
 use Rattle.codec.proofs.Sameness.{same_of_unequal, same-number_differs, take_more_number, same-last-number}
 use native.Mathlib.Omega.{arith}

@@ -1,11 +1,8 @@
 -- `codec::same_bytes` meets its contract. Invariant: the first `at` bytes are equal. Measure: the bytes from `at` on.
 -- Behind the loop the last eight bytes decide. Assumes nothing.
 use Prim.Native.Nat.{◌≤◌, ◌-◌}
-use mathlib.Core.Path.{◌≡◌, refl, sym, ap, ◌∙◌}
+use mathlib.Core.Path.{◌≡◌}
 use lib.ListN.{length, take}
-use Rattle.codec.specs.LittleEndian.{AreBytes}
-use Rattle.codec.proofs.Sameness.{same_of_unequal, same-number_differs, take_more_number, same-last-number}
-use native.Mathlib.Omega.{arith}
 use Rattle.codec.proofs.same_bytes.Given as goal
 
 abbrev pub invariant-loop-at : goal.invariant-loop-at

@@ -1,11 +1,9 @@
 -- `codec::up_eight` meets its contract. Invariant: the bytes from j up to the last eight have moved up, and all else is as it
 -- was. Measure: j. Assumes nothing.
-use Prim.Native.Nat.{ℕ, ◌≤◌, ◌-◌}
-use mathlib.Core.Path.{◌≡◌, refl, sym, ◌∙◌, ap}
-use lib.ListN.{length, length-set}
+use Prim.Native.Nat.{◌≤◌, ◌-◌}
+use mathlib.Core.Path.{◌≡◌}
+use lib.ListN.{length}
 use Rattle.codec.specs.Parts.{moved_up}
-use Rattle.codec.proofs.Moves.{moved_up_none, moved_up_turn}
-use native.Mathlib.Omega.{arith}
 use Rattle.codec.proofs.up_eight.Given as goal
 
 abbrev pub invariant-loop-j : goal.invariant-loop-j
