@@ -11,7 +11,6 @@ use lib.Dec.{eqb}
 use borrow.Author.Tests.{eqb-true, eq-eqb}
 use Rattle.model.specs.Shape.{valuation, cofactor, cofactor_up_to, opens, last_opened, host}
 use Rattle.model.proofs.Compare.{and_left, and_right}
-use Rattle.tree.specs.Append.{slot}
 use Rattle.tree.proofs.Orders.{le_or_lt}
 use Rattle.tree.proofs.Valuations.{valuation_pow, cofactor_pow, restored, cofactor_odd}
 

@@ -13,7 +13,7 @@ use lib.Seq.{take_all, drop-drop}
 use borrow.Rule.Slice.PartMut.{put_mid}
 use Rattle.codec.specs.Parts.{put}
 use Rattle.model.specs.Shape.{valuation, cofactor, opens, host, padded}
-use Rattle.model.specs.Numbering.{nodes, leaf_node, inner_node, node_word}
+use Rattle.model.specs.Numbering.{leaf_node, inner_node, node_word}
 use Rattle.tree.specs.Levels.{full_nodes, Room}
 use Rattle.tree.specs.Places.{place_of, Reached, Placed}
 use Rattle.tree.specs.Append.{slot, with_separator, with_leaf, Needed}
@@ -23,7 +23,7 @@ use Rattle.tree.proofs.Numbers.{leaf_in, leaf_before, not_opened, leaf_closed, i
 use Rattle.tree.proofs.Allotments.{opens-opened}
 use Rattle.tree.proofs.Runs.{leaf_hosted}
 use Rattle.tree.proofs.Leaves.{leaves_next}
-use Rattle.tree.proofs.Hosts.{host_le, opens-none}
+use Rattle.tree.proofs.Hosts.{opens-none}
 use Rattle.tree.proofs.Takers.{hosted}
 use Rattle.tree.proofs.Parts.{length-padded}
 
