@@ -1,6 +1,6 @@
 -- Laws of the two candidates: the entries looked at one by one come to the nearest held tables, and an area of theirs is that of
 -- a used entry. Assumes nothing.
-use Prim.Native.Nat.{ℕ, zero, suc, ◌+◌, ◌≤◌, ◌<◌, min}
+use Prim.Native.Nat.{ℕ, suc, ◌+◌, ◌≤◌, ◌<◌, min}
 use mathlib.Core.Path.{◌≡◌, refl, sym, ap, ◌∙◌}
 use mathlib.Core.List.{List, [], ◌∷◌, ◌++◌}
 use mathlib.Core.Bool.{Bool, true, false, cond, ◌&&◌}
@@ -8,8 +8,8 @@ use native.Mathlib.Omega.{arith}
 use native.Mathlib.Numerals.{add-one}
 use native.Mathlib.Nat.{zero-add, add-zero, suc-add, add-suc}
 use lib.ListN.{length, take, get_or}
-use lib.Seq.{take-suc, length-take-le, take_all, take-take}
-use lib.Dec.{leb, ltb, eqb}
+use lib.Seq.{take-suc, length-take-le, take_all}
+use lib.Dec.{leb, ltb}
 use borrow.Author.Tests.{ne_eqb, leb-true, leb-false}
 use Rattle.model.specs.declared.Numbers.{Numbers}
 use Rattle.model.specs.declared.Entry.{Entry}
@@ -122,14 +122,14 @@ pub latest_within : (k t : ℕ) (best : Held) (i : ℕ) (es : List Entry) → Pl
 unfolding latest files_from
 latest_within k t best i [] p h = p
 latest_within k t best i (e ∷ es) p h =
-    latest_within k t _ (suc i) es (within_cond k i (leb e.time t && ltb best.time e.time) e best (omega arith) p) (omega arith)
+    latest_within k t (cond (leb e.time t && ltb best.time e.time) (get_or (files_from i (e ∷ [])) 0 empty_table) best) (suc i) es (within_cond k i (leb e.time t && ltb best.time e.time) e best (omega arith) p) (omega arith)
 
 pub earliest_within : (k t : ℕ) (best : Held) (i : ℕ) (es : List Entry) → PlaceWithin k best.place → i + length es ≤ k
     → PlaceWithin k (earliest t best (files_from i es)).place
 unfolding earliest files_from
 earliest_within k t best i [] p h = p
 earliest_within k t best i (e ∷ es) p h =
-    earliest_within k t _ (suc i) es (within_cond k i (leb t e.time && leb e.time best.time) e best (omega arith) p) (omega arith)
+    earliest_within k t (cond (leb t e.time && leb e.time best.time) (get_or (files_from i (e ∷ [])) 0 empty_table) best) (suc i) es (within_cond k i (leb t e.time && leb e.time best.time) e best (omega arith) p) (omega arith)
 
 pub candidates_within : (s : Numbers) (t : ℕ) (es : List Entry)
     → PlaceWithin s.files (candidates_in s t es).early.place × PlaceWithin s.files (candidates_in s t es).late.place

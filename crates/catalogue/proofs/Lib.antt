@@ -1,4 +1,3 @@
 pub mod CandidateLaws
 pub mod EntryLaws
-pub mod Sixteen
 pub mod EntryTurns

@@ -7,7 +7,7 @@ ghost use Rattle.codec.specs.Parts.{part};
 ghost use Rattle.model.specs.declared.Entry.{Entry};
 ghost use Rattle.model.specs.Answers.{net_change_outcome};
 ghost use Rattle.model.specs.Promises.{store_of, NetChangePromise};
-ghost use Rattle.tree.specs.Places.{Seen, stretch_lent};
+ghost use Rattle.tree.specs.Places.{Seen, stretch_of};
 ghost use Rattle.catalogue.specs.Candidates.{candidates_in};
 ghost use Rattle.netting.specs.Merge.{Merges};
 ghost use Rattle.comparing.specs.Both.{BothReady, BothWorkedOut, Comparable};
@@ -41,7 +41,7 @@ fn work_out_both<'a>(
     requires both_ready { BothReady s (length log.now) words a b (length work.old) }
     requires seen { Seen s.order extent starts.now words (length index.now) }
     ensures within { (result.first ≤ s.limit) × (result.second ≤ s.limit) }
-    ensures worked { BothWorkedOut s log.now (stretch_lent s.order extent starts words index) current.now areas.now first second a b result work.new }
+    ensures worked { BothWorkedOut s log.now (stretch_of s.order extent starts.now words index.now) current.now areas.now first second a b result work.new }
 {
     let size = 8 * (s.limit as usize);
     let before = tables::work_out(
@@ -109,7 +109,7 @@ pub fn net_change<'a>(
 ) -> NetChangeAnswer
     requires { Seen s.order extent starts.now words (length index.now) }
     ensures { (catalogue : List Entry) → first ≡ candidates_in s a catalogue → second ≡ candidates_in s b catalogue
-        → NetChangePromise (store_of s log.now (stretch_lent s.order extent starts words index) current.now catalogue areas.now) a b
+        → NetChangePromise (store_of s log.now (stretch_of s.order extent starts.now words index.now) current.now catalogue areas.now) a b
         out.old work.old (net_change_outcome result) out.new work.new }
 {
     if limits::is_sound(s, log, words, current.len(), first.lent, areas.len()) {} else {

@@ -8,7 +8,7 @@ ghost use Rattle.model.specs.Starts.{fresh_of, open_of};
 ghost use Rattle.model.specs.Changes.{insert_questions, present_questions, insert_of, delete_of, update_of};
 ghost use Rattle.model.specs.Files.{drop_of, drop_marked_of};
 ghost use Rattle.model.specs.Audit.{audit_of};
-ghost use Rattle.numbered.specs.Lent.{memory_of, memory_lent};
+ghost use Rattle.numbered.specs.Lent.{memory_of};
 ghost use Rattle.numbered.specs.Crossed.{ExactlyCrossed, AppendCrossed, PositionCrossed, TableCrossed, ViewCrossed, NetChangeCrossed, UnitsCrossed, DifferenceCrossed, KeepCrossed, DropMarkedCrossed, LengthsCrossed};
 ghost use Rattle.numbered.specs.Answers.{yes_out};
 ghost use Rattle.embed.specs.Regions.{as_lent, as_left};
@@ -72,8 +72,8 @@ pub extern "C" fn yk_open(
     entries: &mut [Entry],
     areas: &[u8],
 ) -> YkChange
-    ensures { ExactlyCrossed result (as_left log index current entries areas)
-        (open_of (memory_lent log index current entries.old areas.now)) }
+    ensures { ExactlyCrossed result (as_left log.now index.new current.new entries.new areas.now)
+        (open_of (memory_of log.now index.old current.old entries.old areas.now)) }
 {
     let n = entries::count(entries);
     let r = numbered::open(log, index, current, n, areas.len());
@@ -93,8 +93,8 @@ pub extern "C" fn yk_insert(
     article: u32,
     count: u32,
 ) -> YkChange
-    ensures { AppendCrossed 1 result (as_lent s log index current entries areas) (insert_questions (as_lent s log index current entries areas) t article)
-        (as_left log index current entries areas) (insert_of (as_lent s log index current entries areas) t article count) }
+    ensures { AppendCrossed 1 result (as_lent s log.old index.old current.old entries.now areas.now) (insert_questions (as_lent s log.old index.old current.old entries.now areas.now) t article)
+        (as_left log.new index.new current.new entries.now areas.now) (insert_of (as_lent s log.old index.old current.old entries.now areas.now) t article count) }
 {
     numbered::insert(
         s,
@@ -120,8 +120,8 @@ pub extern "C" fn yk_delete(
     t: u64,
     article: u32,
 ) -> YkChange
-    ensures { AppendCrossed 1 result (as_lent s log index current entries areas) (present_questions (as_lent s log index current entries areas) t article 1)
-        (as_left log index current entries areas) (delete_of (as_lent s log index current entries areas) t article) }
+    ensures { AppendCrossed 1 result (as_lent s log.old index.old current.old entries.now areas.now) (present_questions (as_lent s log.old index.old current.old entries.now areas.now) t article 1)
+        (as_left log.new index.new current.new entries.now areas.now) (delete_of (as_lent s log.old index.old current.old entries.now areas.now) t article) }
 {
     numbered::delete(
         s,
@@ -147,8 +147,8 @@ pub extern "C" fn yk_update(
     article: u32,
     count: u32,
 ) -> YkChange
-    ensures { AppendCrossed 2 result (as_lent s log index current entries areas) (present_questions (as_lent s log index current entries areas) t article 2)
-        (as_left log index current entries areas) (update_of (as_lent s log index current entries areas) t article count) }
+    ensures { AppendCrossed 2 result (as_lent s log.old index.old current.old entries.now areas.now) (present_questions (as_lent s log.old index.old current.old entries.now areas.now) t article 2)
+        (as_left log.new index.new current.new entries.now areas.now) (update_of (as_lent s log.old index.old current.old entries.now areas.now) t article count) }
 {
     numbered::update(
         s,
@@ -173,7 +173,7 @@ pub extern "C" fn yk_position(
     areas: &[u8],
     t: u64,
 ) -> YkPosition
-    ensures { PositionCrossed result (as_lent s log index current entries areas) t }
+    ensures { PositionCrossed result (as_lent s log.now index.now current.now entries.now areas.now) t }
 {
     let n = entries::count(entries);
     numbered::position(s, log, index, current, n, areas.len(), t)
@@ -190,7 +190,7 @@ pub extern "C" fn yk_table<'a>(
     t: u64,
     out: &mut [u8],
 ) -> YkTable
-    ensures { TableCrossed result (as_lent s log index current entries areas) t
+    ensures { TableCrossed result (as_lent s log.now index.now current.now entries.now areas.now) t
         out.old out.new }
 {
     numbered::table(
@@ -215,7 +215,7 @@ pub extern "C" fn yk_view(
     areas: &[u8],
     t: u64,
 ) -> YkView
-    ensures { ViewCrossed result (as_lent s log index current entries areas) t }
+    ensures { ViewCrossed result (as_lent s log.now index.now current.now entries.now areas.now) t }
 {
     numbered::view(
         s,
@@ -241,7 +241,7 @@ pub extern "C" fn yk_net_change<'a>(
     out: &mut [u8],
     work: &mut [u8],
 ) -> YkNetChange
-    ensures { NetChangeCrossed result (as_lent s log index current entries areas) a b
+    ensures { NetChangeCrossed result (as_lent s log.now index.now current.now entries.now areas.now) a b
         out.old work.old out.new work.new }
 {
     numbered::net_change(
@@ -269,7 +269,7 @@ pub extern "C" fn yk_units<'a>(
     areas: &'a [u8],
     t: u64,
 ) -> YkUnits
-    ensures { UnitsCrossed result (as_lent s log index current entries areas) t }
+    ensures { UnitsCrossed result (as_lent s log.now index.now current.now entries.now areas.now) t }
 {
     numbered::units(
         s,
@@ -293,7 +293,7 @@ pub extern "C" fn yk_units_between<'a>(
     a: u64,
     b: u64,
 ) -> YkDifference
-    ensures { DifferenceCrossed result (as_lent s log index current entries areas) a b }
+    ensures { DifferenceCrossed result (as_lent s log.now index.now current.now entries.now areas.now) a b }
 {
     numbered::units_between(
         s,
@@ -319,7 +319,7 @@ pub extern "C" fn yk_keep(
     t: u64,
     mark: u32,
 ) -> YkChange
-    ensures { KeepCrossed result (as_lent s log index current entries areas) t mark (as_left log index current entries areas) }
+    ensures { KeepCrossed result (as_lent s log.now index.now current.now entries.old areas.old) t mark (as_left log.now index.now current.now entries.new areas.new) }
 {
     let c = entries::nearest(entries, s, t);
     let at = entries::place(entries, s, t);
@@ -338,7 +338,7 @@ pub extern "C" fn yk_drop(
     areas: &mut [u8],
     t: u64,
 ) -> YkChange
-    ensures { ExactlyCrossed result (as_left log index current entries areas) (drop_of (as_lent s log index current entries areas) t) }
+    ensures { ExactlyCrossed result (as_left log.now index.now current.now entries.new areas.new) (drop_of (as_lent s log.now index.now current.now entries.old areas.old) t) }
 {
     let x = entries::staying(entries, s, catalogue::of_time(t));
     let r = numbered::drop(s, log, index, current, x, areas, t);
@@ -356,7 +356,7 @@ pub extern "C" fn yk_drop_marked(
     areas: &mut [u8],
     mark: u32,
 ) -> YkDropMarked
-    ensures { DropMarkedCrossed result (as_left log index current entries areas) (drop_marked_of (as_lent s log index current entries areas) mark) }
+    ensures { DropMarkedCrossed result (as_left log.now index.now current.now entries.new areas.new) (drop_marked_of (as_lent s log.now index.now current.now entries.old areas.old) mark) }
 {
     let x = entries::staying(entries, s, catalogue::of_mark(mark));
     let r = numbered::drop_marked(s, log, index, current, x, areas, mark);
@@ -373,7 +373,7 @@ pub extern "C" fn yk_audit(
     entries: &[Entry],
     areas: &[u8],
 ) -> u8
-    ensures { result ≡ yes_out (audit_of (as_lent s log index current entries areas)) }
+    ensures { result ≡ yes_out (audit_of (as_lent s log.now index.now current.now entries.now areas.now)) }
 {
     numbered::audit(s, log, index, current, entries::load(entries), areas)
 }

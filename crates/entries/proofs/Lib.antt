@@ -1,11 +1,2 @@
-pub mod Bodies
 pub mod LentLaws
-pub mod ShellRules
-pub mod PlainCalls
-pub mod Shells
-pub mod LoopRules
-pub mod LentShared
-pub mod OpenSlices
-pub mod OpenEntries
-pub mod Folds
 pub mod Callers

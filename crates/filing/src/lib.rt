@@ -10,7 +10,7 @@ ghost use Rattle.model.specs.Answers.{verdict_outcome, drop_marked_outcome};
 ghost use Rattle.model.specs.Files.{with_count, file_of, drop_of, drop_marked_of};
 ghost use Rattle.model.specs.Memory.{no_entry};
 ghost use Rattle.model.specs.Promises.{store_of};
-ghost use Rattle.tree.specs.Places.{Seen, stretch_lent};
+ghost use Rattle.tree.specs.Places.{Seen, stretch_of};
 ghost use Rattle.catalogue.specs.declared.Going.TheVariants.{Of, Marked};
 ghost use Rattle.catalogue.specs.Candidates.{used_in, candidates_in};
 ghost use Rattle.catalogue.specs.Entries.{place_for, entry_put};
@@ -96,8 +96,8 @@ fn keep_file(
     requires files_bound { (s.files < 16) × (at ≤ s.files) }
     requires files_in_bounds { 8 * s.limit * (s.files + 1) ≤ length areas.old }
     ensures { (catalogue : List Entry) (mark : ℕ) → c ≡ candidates_in s t catalogue → at ≡ place_for t (used_in s catalogue) → s.files < length catalogue
-        → KeptFile (store_of s log.now (stretch_lent s.order extent starts words index) current.now catalogue areas.old) t mark
-        (store_of (with_count s (s.files + 1)) log.now (stretch_lent s.order extent starts words index) current.now
+        → KeptFile (store_of s log.now (stretch_of s.order extent starts.now words index.now) current.now catalogue areas.old) t mark
+        (store_of (with_count s (s.files + 1)) log.now (stretch_of s.order extent starts.now words index.now) current.now
         (entry_put catalogue s.files at (file_of t result mark areas.new).entry) areas.new) }
 {
     let size = 8 * (s.limit as usize);
@@ -136,7 +136,7 @@ pub fn keep(
 ) -> Kept
     requires seen { Seen s.order extent starts.now words (length index.now) }
     requires at_le_files { at ≤ s.files }
-    ensures { Keeps s log.now (stretch_lent s.order extent starts words index) current.now c at areas.old t mark
+    ensures { Keeps s log.now (stretch_of s.order extent starts.now words index.now) current.now c at areas.old t mark
         result areas.new }
 {
     if limits::is_sound(s, log, words, current.len(), c.lent, areas.len()) {} else {

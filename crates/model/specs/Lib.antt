@@ -8,7 +8,6 @@ pub mod Carry
 pub mod Legal
 pub mod Pages
 pub mod Marks
-pub mod Regions
 pub mod Memory
 pub mod Positions
 pub mod Outset

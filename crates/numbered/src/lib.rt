@@ -13,7 +13,7 @@ ghost use Rattle.catalogue.specs.ByValue.{by_value};
 ghost use Rattle.catalogue.specs.Candidates.{used_in, candidates_in};
 ghost use Rattle.catalogue.specs.Entries.{place_for, entry_shifted, stays_when, staying_of, entries_closed};
 ghost use Rattle.numbered.specs.Answers.{yes_out};
-ghost use Rattle.numbered.specs.Lent.{memory_of, cleared, memory_lent, memory_left, store_lent};
+ghost use Rattle.numbered.specs.Lent.{memory_of, cleared, store_lent};
 ghost use Rattle.numbered.specs.Crossed.{ExactlyCrossed, AppendCrossed, PositionCrossed, TableCrossed, ViewCrossed, NetChangeCrossed, UnitsCrossed, DifferenceCrossed, KeepCrossed, DropMarkedCrossed, LengthsCrossed};
 
 use answer::{
@@ -61,8 +61,8 @@ pub fn open(
 ) -> Begun
     ensures few { result.clears ≤ entries }
     ensures kept { (area : List ℕ) (catalogue : List Entry) → length catalogue ≡ entries → length area ≡ areas
-        → ExactlyCrossed result.change (memory_left log index current (cleared result.clears catalogue) area)
-        (open_of (memory_lent log index current catalogue area)) }
+        → ExactlyCrossed result.change (memory_of log.now index.new current.new (cleared result.clears catalogue) area)
+        (open_of (memory_of log.now index.old current.old catalogue area)) }
 {
     let none = [0u64; 1];
     let words = index.len();
@@ -81,9 +81,9 @@ pub fn insert(
     count: u32,
 ) -> YkChange
     ensures { (catalogue : List Entry) (area : List ℕ) → length catalogue ≡ entries → length area ≡ areas
-        → AppendCrossed 1 result (store_lent s log index current catalogue area) (insert_questions (store_lent s log index current catalogue area) t article)
-        (memory_left log index current catalogue area)
-        (insert_of (store_lent s log index current catalogue area) t article count) }
+        → AppendCrossed 1 result (store_lent s log.old index.old current.old catalogue area) (insert_questions (store_lent s log.old index.old current.old catalogue area) t article)
+        (memory_of log.new index.new current.new catalogue area)
+        (insert_of (store_lent s log.old index.old current.old catalogue area) t article count) }
 {
     let none = [0u64; 1];
     let words = index.len();
@@ -104,9 +104,9 @@ pub fn delete(
     article: u32,
 ) -> YkChange
     ensures { (catalogue : List Entry) (area : List ℕ) → length catalogue ≡ entries → length area ≡ areas
-        → AppendCrossed 1 result (store_lent s log index current catalogue area) (present_questions (store_lent s log index current catalogue area) t article 1)
-        (memory_left log index current catalogue area)
-        (delete_of (store_lent s log index current catalogue area) t article) }
+        → AppendCrossed 1 result (store_lent s log.old index.old current.old catalogue area) (present_questions (store_lent s log.old index.old current.old catalogue area) t article 1)
+        (memory_of log.new index.new current.new catalogue area)
+        (delete_of (store_lent s log.old index.old current.old catalogue area) t article) }
 {
     let none = [0u64; 1];
     let words = index.len();
@@ -128,9 +128,9 @@ pub fn update(
     count: u32,
 ) -> YkChange
     ensures { (catalogue : List Entry) (area : List ℕ) → length catalogue ≡ entries → length area ≡ areas
-        → AppendCrossed 2 result (store_lent s log index current catalogue area) (present_questions (store_lent s log index current catalogue area) t article 2)
-        (memory_left log index current catalogue area)
-        (update_of (store_lent s log index current catalogue area) t article count) }
+        → AppendCrossed 2 result (store_lent s log.old index.old current.old catalogue area) (present_questions (store_lent s log.old index.old current.old catalogue area) t article 2)
+        (memory_of log.new index.new current.new catalogue area)
+        (update_of (store_lent s log.old index.old current.old catalogue area) t article count) }
 {
     let none = [0u64; 1];
     let words = index.len();
@@ -150,7 +150,7 @@ pub fn position(
     t: u64,
 ) -> YkPosition
     ensures { (catalogue : List Entry) (area : List ℕ) → length catalogue ≡ entries → length area ≡ areas
-        → PositionCrossed result (store_lent s log index current catalogue area) t }
+        → PositionCrossed result (store_lent s log.now index.now current.now catalogue area) t }
 {
     let none = [0u64; 1];
     let words = index.len();
@@ -169,7 +169,7 @@ pub fn table<'a>(
     out: &mut [u8],
 ) -> YkTable
     ensures { (catalogue : List Entry) → c ≡ candidates_in s t catalogue
-        → TableCrossed result (store_lent s log index current catalogue areas.now) t
+        → TableCrossed result (store_lent s log.now index.now current.now catalogue areas.now) t
         out.old out.new }
 {
     let none = [0u64; 1];
@@ -188,7 +188,7 @@ pub fn view(
     t: u64,
 ) -> YkView
     ensures { (catalogue : List Entry) → c ≡ candidates_in s t catalogue
-        → ViewCrossed result (store_lent s log index current catalogue areas.now) t }
+        → ViewCrossed result (store_lent s log.now index.now current.now catalogue areas.now) t }
 {
     let none = [0u64; 1];
     let words = index.len();
@@ -210,7 +210,7 @@ pub fn net_change<'a>(
     work: &mut [u8],
 ) -> YkNetChange
     ensures { (catalogue : List Entry) → first ≡ candidates_in s a catalogue → second ≡ candidates_in s b catalogue
-        → NetChangeCrossed result (store_lent s log index current catalogue areas.now) a b
+        → NetChangeCrossed result (store_lent s log.now index.now current.now catalogue areas.now) a b
         out.old work.old out.new work.new }
 {
     let none = [0u64; 1];
@@ -231,7 +231,7 @@ pub fn units<'a>(
     t: u64,
 ) -> YkUnits
     ensures { (catalogue : List Entry) → c ≡ candidates_in s t catalogue
-        → UnitsCrossed result (store_lent s log index current catalogue areas.now) t }
+        → UnitsCrossed result (store_lent s log.now index.now current.now catalogue areas.now) t }
 {
     let none = [0u64; 1];
     let words = index.len();
@@ -251,7 +251,7 @@ pub fn units_between<'a>(
     b: u64,
 ) -> YkDifference
     ensures { (catalogue : List Entry) → first ≡ candidates_in s a catalogue → second ≡ candidates_in s b catalogue
-        → DifferenceCrossed result (store_lent s log index current catalogue areas.now) a b }
+        → DifferenceCrossed result (store_lent s log.now index.now current.now catalogue areas.now) a b }
 {
     let none = [0u64; 1];
     let words = index.len();
@@ -276,8 +276,8 @@ pub fn keep(
     ensures low { result.at ≤ result.end }
     ensures high { result.end ≤ c.lent }
     ensures kept { (catalogue : List Entry) → c ≡ candidates_in s t catalogue → at ≡ place_for t (used_in s catalogue)
-        → KeepCrossed result.change (store_lent s log index current catalogue areas.old) t mark
-        (memory_left log index current (entry_shifted catalogue result.at result.end result.entry) areas.new) }
+        → KeepCrossed result.change (store_lent s log.now index.now current.now catalogue areas.old) t mark
+        (memory_of log.now index.now current.now (entry_shifted catalogue result.at result.end result.entry) areas.new) }
 {
     let none = [0u64; 1];
     let words = index.len();
@@ -298,8 +298,8 @@ pub fn drop(
 ) -> DroppedOut
     ensures few { (result.over ≤ 16) × ((result.over ≤ x.lent) × (result.over ≤ s.files)) }
     ensures kept { (catalogue : List Entry) → x ≡ staying_of (Of t) (used_in s catalogue) (length catalogue)
-        → ExactlyCrossed result.change (memory_left log index current (entries_closed (stays_when (Of t)) result.over catalogue) areas.new)
-        (drop_of (store_lent s log index current catalogue areas.old) t) }
+        → ExactlyCrossed result.change (memory_of log.now index.now current.now (entries_closed (stays_when (Of t)) result.over catalogue) areas.new)
+        (drop_of (store_lent s log.now index.now current.now catalogue areas.old) t) }
 {
     answer::drop_out(filing::drop(s, log, index.len(), current, x, areas, t))
 }
@@ -316,8 +316,8 @@ pub fn drop_marked(
     requires { x.count ≤ s.files }
     ensures few { (result.over ≤ 16) × ((result.over ≤ x.lent) × (result.over ≤ s.files)) }
     ensures kept { (catalogue : List Entry) → x ≡ staying_of (Marked mark) (used_in s catalogue) (length catalogue)
-        → DropMarkedCrossed result.answer (memory_left log index current (entries_closed (stays_when (Marked mark)) result.over catalogue) areas.new)
-        (drop_marked_of (store_lent s log index current catalogue areas.old) mark) }
+        → DropMarkedCrossed result.answer (memory_of log.now index.now current.now (entries_closed (stays_when (Marked mark)) result.over catalogue) areas.new)
+        (drop_marked_of (store_lent s log.now index.now current.now catalogue areas.old) mark) }
 {
     answer::clear_out(filing::drop_marked(s, log, index.len(), current, x, areas, mark))
 }
@@ -331,7 +331,7 @@ pub fn audit(
     areas: &[u8],
 ) -> u8
     ensures { (catalogue : List Entry) → c ≡ by_value catalogue
-        → result ≡ yes_out (audit_of (store_lent s log index current catalogue areas.now)) }
+        → result ≡ yes_out (audit_of (store_lent s log.now index.now current.now catalogue areas.now)) }
 {
     let none = [0u64; 1];
     let words = index.len();

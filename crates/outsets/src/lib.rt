@@ -4,7 +4,7 @@
 
 ghost use Rattle.std.specs.Prelude.{◌+◌, ◌*◌, ◌≤◌, ◌≡◌, length};
 ghost use Rattle.model.specs.Outset as outset;
-ghost use Rattle.tree.specs.Places.{stretch_of, Seen, stretch_lent};
+ghost use Rattle.tree.specs.Places.{stretch_of, Seen};
 ghost use Rattle.pages.specs.Paged.{Indexed, PositionIs};
 ghost use Rattle.outsets.specs.Used.{NearestIs};
 
@@ -43,7 +43,7 @@ fn position_of(
     requires seen { Seen s.order extent starts.now words (length index.now) }
     requires records_in_bounds { 24 + 24 * s.records ≤ length log.now }
     requires position_is { PositionIs s t log.now (stretch_of s.order extent starts.now words index.now) here }
-    ensures { PositionIs s time log.now (stretch_lent s.order extent starts words index) result }
+    ensures { PositionIs s time log.now (stretch_of s.order extent starts.now words index.now) result }
 {
     if time == t {
         return here;
@@ -69,7 +69,7 @@ pub fn choose(
     requires seen { Seen s.order extent starts.now words (length index.now) }
     requires records_in_bounds { 24 + 24 * s.records ≤ length log.now }
     requires position_is { PositionIs s t log.now (stretch_of s.order extent starts.now words index.now) here }
-    ensures { NearestIs s early late t log.now (stretch_lent s.order extent starts words index) result }
+    ensures { NearestIs s early late t log.now (stretch_of s.order extent starts.now words index.now) result }
 {
     let before = position_of(log, index, extent, starts, words, s, early.time, t, here);
     let after = position_of(log, index, extent, starts, words, s, late.time, t, here);

@@ -15,7 +15,7 @@ use output::Room;
 use reader::Step;
 
 // How far the listing is.
-#[derive(Drop)]
+#[derive(Clone, Copy)]
 pub struct Listing {
     // bytes of the buffer in use
     pub at: usize,

@@ -12,7 +12,7 @@ pub const REFUSED: u8 = 1;
 pub const UNWRITTEN: u8 = 3;
 
 // How many bytes are still to be written, with space for a line behind them.
-#[derive(Drop)]
+#[derive(Clone, Copy)]
 pub enum Room {
     At(usize),
     Unwritten,

@@ -3,7 +3,6 @@
 -- `stretch_of`. Assumes nothing.
 use Rattle.std.specs.Prelude.{ℕ, zero, suc, ◌+◌, ◌-◌, ◌/◌, ◌%◌, ◌≤◌, ◌<◌, ◌≡◌, ◌⊎◌, List, [], ◌++◌, cond, length, get_or, replicate, eqb}
 use Rattle.codec.specs.Parts.{zeros, part}
-use Rattle.model.specs.Regions.{Region}
 use Rattle.model.specs.Numbering.{node_word}
 use Rattle.model.specs.Tree.{tree_of, with_nodes, NodesFrame}
 
@@ -80,14 +79,3 @@ pub record Seen (d e : ℕ) (starts : List ℕ) (words len : ℕ) : Type 0 where
 -- of the index nothing but words of the stretch's nodes was written: with the stretch that is left this tells every word
 abbrev pub StretchFrame : (d e : ℕ) → List ℕ → ℕ → List ℕ → List ℕ → Type 0
 StretchFrame d e starts words index index' = NodesFrame (place_of d e starts) (d - 1) (nodes_in d words) index index'
-
--- ---- short names for contracts: the stretch of an index as it is lent and as it is left, and the frame between
-
-abbrev pub stretch_lent : (d e : ℕ) → Region ℕ → ℕ → Region ℕ → List ℕ
-stretch_lent d e starts words index = stretch_of d e starts.entry.now words index.entry.now
-
-abbrev pub stretch_left : (d e : ℕ) → Region ℕ → ℕ → Region ℕ → List ℕ
-stretch_left d e starts words index = stretch_of d e starts.entry.now words index.exit.now
-
-abbrev pub StretchFramed : (d e : ℕ) → Region ℕ → ℕ → Region ℕ → Type 0
-StretchFramed d e starts words index = StretchFrame d e starts.entry.now words index.entry.now index.exit.now
