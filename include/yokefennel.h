@@ -1,4 +1,4 @@
-/* Yokefennel: a stock history store, called from C99 or C++. Link libembed.a (`rt staticlib embed`).
+/* Yokefennel: a stock history store, called from C99 or C++. Link libembed.a (`./archive`).
  *
  * All memory is the caller's, and lent for one call at a time. Nothing is kept between calls but what is
  * in it and in the numbers, which pass by value: give each call the numbers that the last one answered.

@@ -1,4 +1,4 @@
-//! Links the proved store: `YK_LIB_DIR` is the folder of libembed.a, which `rt staticlib embed` writes.
+//! Links the proved store: `YK_LIB_DIR` is the folder of libembed.a, which `./archive` writes.
 
 use std::path::PathBuf;
 use std::{env, process};
@@ -9,7 +9,7 @@ fn main() {
     let archive = folder.join("libembed.a");
     if !folder.is_absolute() || !archive.is_file() {
         eprintln!(
-            "YK_LIB_DIR must be the full path of the folder of libembed.a, which `rt staticlib embed` writes"
+            "YK_LIB_DIR must be the full path of the folder of libembed.a, which `./archive` writes"
         );
         process::exit(1);
     }

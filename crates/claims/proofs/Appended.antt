@@ -9,7 +9,7 @@ use Rattle.codec.proofs.Numbers.{are_bytes-put}
 use Rattle.codec.proofs.PartLaws.{length-put}
 use Rattle.model.specs.Records.{Rec, no_record, records_bytes, header_bytes}
 use Rattle.model.specs.Rows.{table_bytes}
-use Rattle.model.specs.Timeslice.{timeslice, table}
+use Rattle.model.specs.Timeslice.{timeslice}
 use Rattle.model.specs.Pages.{pages_of, page_times}
 use Rattle.model.specs.Tree.{index_words}
 use Rattle.model.specs.Memory.{State, log_of}

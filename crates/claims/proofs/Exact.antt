@@ -19,7 +19,7 @@ use Rattle.model.specs.Records.{header_last}
 use Rattle.model.specs.Rows.{table_bytes}
 use Rattle.model.specs.Timeslice.{timeslice}
 use Rattle.model.specs.Marks.{is_mark}
-use Rattle.model.specs.Memory.{Memory, State, state, no_entry, log_of, rows_now, sound, capacity_of, emptied}
+use Rattle.model.specs.Memory.{Memory, State, no_entry, log_of, rows_now, sound, capacity_of, emptied}
 use Rattle.model.specs.Starts.{opened_memory, opened_numbers, open_of}
 use Rattle.model.specs.Files.{File, files_of, areas_bytes, entry_of, with_count, is_kept, keep_questions, file_at, keep_of}
 use Rattle.model.specs.Promises.{store_of}

@@ -1,12 +1,11 @@
 -- A refusal's number read again is that refusal: 17 comes with a record number, and every other number alone. Assumes nothing.
-use Prim.Native.Nat.{ℕ}
 use mathlib.Core.Path.{◌≡◌, refl, sym, ◌∙◌}
-use mathlib.Core.Bool.{true, false, cond, false≢true}
+use mathlib.Core.Bool.{false, cond, false≢true}
 use mathlib.Core.List.{List}
 use lib.Dec.{eqb}
 use Rattle.model.specs.declared.Refusal.{Refusal}
 use Rattle.model.specs.declared.Refusal.TheVariants.{Header, Order, PageSize, RowLimit, Memory, TimeNotAbove, ArticlePresent, ArticleAbsent, RowsFull, LogFull, IndexFull, TimeAfterLast, OutputShort, NotToKeep, CatalogueFull, NotKept, WrongRecord, WrongMark}
-use Rattle.model.specs.Answers.{Outcome, refuses_at, Question, asks, first_no, refusal}
+use Rattle.model.specs.Answers.{refuses_at, Question, asks, refusal}
 use Rattle.model.specs.Promises.{refused_number, FirstNoRefuses}
 use Rattle.model.proofs.PromiseLaws.{not_first}
 use Rattle.answers.specs.Question.{record_in, number_of, record_of}

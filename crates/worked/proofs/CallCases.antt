@@ -15,7 +15,7 @@ use Rattle.model.specs.Rows.{Row, row}
 use Rattle.model.specs.Timeslice.{InReport}
 use Rattle.model.specs.Memory.{State, state, standing}
 use Rattle.model.specs.Queries.{position_of}
-use Rattle.model.specs.Files.{files_of, is_kept, keep_questions, keep_of, drop_of, drop_marked_of}
+use Rattle.model.specs.Files.{files_of, is_kept, keep_questions, keep_of, drop_of}
 use Rattle.model.specs.Changes.{insert_questions, insert_of}
 use Rattle.model.specs.Promises.{is_refused, FirstNoRefuses, refused_among, by_one_of, AppendAsked}
 use Rattle.model.specs.Calls.{Call, run, changed, positioned, written, viewed, netted, totalled, differed, cleared, audited, answer_of}

@@ -4,7 +4,6 @@ use mathlib.Core.List.{[], ◌∷◌}
 use native.Mathlib.Omega.{arith}
 use lib.Dec.{leb}
 use borrow.Author.Tests.{le-leb, lt-leb}
-use Rattle.std.proofs.Common.{rules}
 use Rattle.model.specs.declared.Settings.{Settings}
 use Rattle.model.specs.Answers.{Outcome, answers, refusal, question, first_no, checked_outcome}
 use Rattle.model.specs.Settings.{records_in_range}
