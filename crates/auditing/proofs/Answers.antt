@@ -161,7 +161,7 @@ module _ (s : Numbers) (log index current : List ℕ) (c : Catalogue) (areas : L
         (and_both
         (and_both
         (and_both (and_both (rw lent at sound) (and_both l.log_legal (eq-eqb _ _ l.last_is)))
-        (and_both (eq-eqb _ _ l.live_is) (same_of_equal _ _ l.table-is)))
+        (and_both (eq-eqb _ _ l.live_is) (same_of_equal _ _ l.table_is)))
         tree)
         (test_of_files st 0 _ logs.1))
         (rw lent at (rest-zero blank)))
