@@ -217,7 +217,13 @@ fn list<R: Print + Eprint>(
     output::fail(rt)
 }
 
-fn print_listing<R: Print + Eprint>(rt: &R, s: Numbers, log: &[u8], index: &[u64], current: &[u8]) -> u8
+fn print_listing<R: Print + Eprint>(
+    rt: &R,
+    s: Numbers,
+    log: &[u8],
+    index: &[u64],
+    current: &[u8],
+) -> u8
     ensures { result ≤ 3 }
 {
     let mut out = [0u8; 8192];
