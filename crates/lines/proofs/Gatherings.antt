@@ -1,11 +1,9 @@
 -- Texts gathered one behind the other are one text, gathered at once. Assumes nothing.
-use Prim.Native.Nat.{ℕ, ◌+◌, ◌≤◌}
-use mathlib.Core.Path.{◌≡◌, ap, ◌∙◌}
+use Prim.Native.Nat.{ℕ, ◌≤◌}
+use mathlib.Core.Path.{◌∙◌}
 use mathlib.Core.List.{List, ◌++◌}
 use native.Mathlib.Omega.{arith}
-use native.Mathlib.Nat.{add_assoc}
 use lib.ListN.{length, length-append}
-use Rattle.codec.specs.Parts.{put}
 use Rattle.codec.proofs.PartLaws.{put-append}
 use Rattle.lines.specs.Gathered.{Gathered}
 

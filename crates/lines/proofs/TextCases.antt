@@ -1,8 +1,7 @@
 -- The texts computed: 01's line for time 40, its last line (02, wish 1), a refusal by question 17, the largest number of 64 bits
 -- and 0. Assumes nothing.
-use Prim.Native.Nat.{ℕ}
 use mathlib.Core.Path.{◌≡◌, refl}
-use mathlib.Core.List.{List, [], ◌∷◌}
+use mathlib.Core.List.{[], ◌∷◌}
 use Rattle.model.specs.declared.Side.TheVariants.{Later}
 use Rattle.lines.specs.Text.{last_digits, numeral, side_text, line_text, named_text, units_text, refused_text}
 

@@ -6,6 +6,7 @@ ghost use Rattle.std.specs.Prelude.{◌≡◌, ◌+◌, ◌≤◌, length};
 ghost use Rattle.lines.specs.Text.{numeral, side_text, line_text, named_text, units_text, refused_text};
 ghost use Rattle.lines.specs.Gathered.{Gathered};
 
+use itoa::Buffer;
 use model::Side;
 
 // The most bytes that a line of the listing takes.
@@ -25,9 +26,8 @@ pub fn put_number(buffer: &mut [u8], at: usize, n: u64) -> usize
     ensures gathered { Gathered buffer.old at (numeral n) buffer.new result }
     ensures short { result ≤ at + 20 }
 {
-    let mut digits = [0u8; 20];
-    let k = io::decimal(n, &mut digits);
-    gather(buffer, at, &digits[..k])
+    let mut digits = Buffer::new();
+    gather(buffer, at, digits.format(n).as_bytes())
 }
 
 fn put_side(buffer: &mut [u8], at: usize, side: Side) -> usize

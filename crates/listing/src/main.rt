@@ -1,7 +1,8 @@
-// The listing program (01, "One log by hand"), as rt builds and runs it. A Rattle program sets no exit status; `list` links the
-// same with a `main` of C's that hands the status on.
+// The listing program (01, "One log by hand"): it ends with the status that the proved function answers.
 #![tactic(auto)]
 
-fn main() {
-    printout::yk_list();
+use std::process::ExitCode;
+
+fn main(rt: HostRuntime) -> ExitCode {
+    ExitCode::from(printout::yk_list(&rt))
 }

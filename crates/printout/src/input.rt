@@ -1,20 +1,18 @@
 // Standard input.
 ghost use Rattle.std.specs.Prelude.{◌≡◌};
 
-use libc::{STDERR_FILENO, STDIN_FILENO};
+use std::io::{Eprint, Read};
 
 // Could not read.
 pub const UNREAD: u8 = 2;
 
 // Reads until the log is full, and leaves what is past that, or the input ends; false where a read fails.
-pub fn read_log(log: &mut [u8]) -> bool {
+pub fn read_log<I: Read>(input: &mut I, log: &mut [u8]) -> bool {
     let mut done = 0;
     while done < log.len() {
-        let got = libc::read(STDIN_FILENO, &mut log[done..]);
-        if got < 0 {
+        let Ok(n) = input.read(&mut log[done..]) else {
             return false;
-        }
-        let n = io::count(got, &log[done..]);
+        };
         if n == 0 {
             return true;
         }
@@ -24,9 +22,9 @@ pub fn read_log(log: &mut [u8]) -> bool {
 }
 
 // Says that a read failed, and answers the status.
-pub fn fail() -> u8
+pub fn fail<R: Eprint>(rt: &R) -> u8
     ensures { result ≡ 2 }
 {
-    io::write_all(STDERR_FILENO, b"listing: cannot read standard input\n");
+    let _ = rt.eprintln("listing: cannot read standard input");
     UNREAD
 }

@@ -13,6 +13,7 @@ use catalogue::Candidates;
 use model::{Numbers, PositionAnswer, Refusal, TableAnswer, UnitsAnswer, Verdict};
 use output::Room;
 use reader::Step;
+use std::io::{Eprint, Input, Print};
 
 // How far the listing is.
 #[derive(Clone, Copy)]
@@ -78,7 +79,8 @@ fn list_time(
 }
 
 // Gathers the last line, writes what is still to be written, and answers the status.
-fn list_units(
+fn list_units<R: Print + Eprint>(
+    rt: &R,
     s: Numbers,
     log: &[u8],
     index: &[u64],
@@ -90,8 +92,8 @@ fn list_units(
     requires in_bounds { 65 ≤ length buffer.old }
     ensures { result ≤ 3 }
 {
-    let Room::At(room) = output::make_room(buffer, at) else {
-        return output::fail();
+    let Room::At(room) = output::make_room(rt, buffer, at) else {
+        return output::fail(rt);
     };
     let none = &current[0..0];
     let starts = [0u64; 1];
@@ -108,10 +110,10 @@ fn list_units(
         none,
         s.last,
     ) else {
-        return output::finish(buffer, room, output::LISTED);
+        return output::finish(rt, buffer, room, output::LISTED);
     };
     let end = lines::put_units(buffer, room, total);
-    output::finish(buffer, end, output::LISTED)
+    output::finish(rt, buffer, end, output::LISTED)
 }
 
 // Before the first record.
@@ -139,7 +141,8 @@ fn ended(l: Listing, written: bool) -> Listing
 }
 
 // What the reader has handed out is listed: a line for a record's time, unless it is the time listed last.
-fn list_step(
+fn list_step<R: Print>(
+    rt: &R,
     step: Step,
     l: Listing,
     s: Numbers,
@@ -158,7 +161,7 @@ fn list_step(
     if record.time == l.time {
         return l;
     }
-    let Room::At(room) = output::make_room(buffer, l.at) else {
+    let Room::At(room) = output::make_room(rt, buffer, l.at) else {
         return ended(l, false);
     };
     Listing {
@@ -169,9 +172,10 @@ fn list_step(
     }
 }
 
-// One reader goes along the log from the first record, and what it hands out is listed. Only this function holds a reader, and it is
-// proved by hand: all that it does is to call.
-fn list_records(
+// One reader goes along the log from the first record, and what it hands out is listed. Only this function holds a reader:
+// all that it does is to call.
+fn list_records<R: Print>(
+    rt: &R,
     s: Numbers,
     log: &[u8],
     index: &[u64],
@@ -186,14 +190,15 @@ fn list_records(
     let mut l = begun(at);
     let mut r = reader::new(log);
     while l.more {
-        l = list_step(reader::next(r), l, s, log, index, current, out, buffer);
+        l = list_step(rt, reader::next(r), l, s, log, index, current, out, buffer);
         r = reader::moved(r);
     }
     l
 }
 
 // A line for each different time among the records, and the units.
-fn list(
+fn list<R: Print + Eprint>(
+    rt: &R,
     s: Numbers,
     log: &[u8],
     index: &[u64],
@@ -205,45 +210,50 @@ fn list(
     ensures { result ≤ 3 }
 {
     let at = lines::gather(buffer, 0, b"time page outset rows\n");
-    let l = list_records(s, log, index, current, out, buffer, at);
+    let l = list_records(rt, s, log, index, current, out, buffer, at);
     if l.written {
-        return list_units(s, log, index, current, buffer, l.at);
+        return list_units(rt, s, log, index, current, buffer, l.at);
     }
-    output::fail()
+    output::fail(rt)
 }
 
-fn print_listing(s: Numbers, log: &[u8], index: &[u64], current: &[u8]) -> u8
+fn print_listing<R: Print + Eprint>(
+    rt: &R,
+    s: Numbers,
+    log: &[u8],
+    index: &[u64],
+    current: &[u8],
+) -> u8
     ensures { result ≤ 3 }
 {
     let mut out = [0u8; 8192];
     let mut buffer = [0u8; 8192];
-    list(s, log, index, current, &mut out, &mut buffer)
+    list(rt, s, log, index, current, &mut out, &mut buffer)
 }
 
-fn print_refused(why: Refusal) -> u8
+fn print_refused<R: Print + Eprint>(rt: &R, why: Refusal) -> u8
     ensures { result ≤ 3 }
 {
     let mut buffer = [0u8; 64];
     let at = lines::put_refused(&mut buffer, 0, answers::question(why));
-    output::finish(&buffer, at, output::REFUSED)
+    output::finish(rt, &buffer, at, output::REFUSED)
 }
 
 // The status that the program is to end with.
-#[unsafe(no_mangle)]
-pub extern "C" fn yk_list() -> u8
+pub fn yk_list<R: Input + Print + Eprint>(rt: &R) -> u8
     ensures { result ≤ 3 }
 {
     let mut log = [0u8; 65536];
     let mut index = [0u64; 2729];
     let mut current = [0u8; 8192];
-    if input::read_log(&mut log) {} else {
-        return input::fail();
+    if input::read_log(&mut rt.reader(), &mut log) {} else {
+        return input::fail(rt);
     }
     let starts = [0u64; 1];
     let started = opening::open(&log, &mut index, 0, &starts, 2729, &mut current, 0, 0);
     let verdict = started.verdict;
     match verdict {
-        Verdict::Refused(why) => print_refused(why),
-        Verdict::Accepted => print_listing(started.numbers, &log, &index, &current),
+        Verdict::Refused(why) => print_refused(rt, why),
+        Verdict::Accepted => print_listing(rt, started.numbers, &log, &index, &current),
     }
 }

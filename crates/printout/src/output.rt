@@ -2,7 +2,7 @@
 ghost use Rattle.std.specs.Prelude.{◌≤◌, ◌≡◌, length};
 ghost use Rattle.printout.specs.Rooms.{Fits};
 
-use libc::{STDERR_FILENO, STDOUT_FILENO};
+use std::io::{Eprint, Print};
 
 // How the program ends: listed, refused by one of 01's questions, or it could not write.
 pub const LISTED: u8 = 0;
@@ -19,13 +19,13 @@ pub enum Room {
 }
 
 // Writes the first `at` bytes, and whether all of them are written.
-fn write(buffer: &[u8], at: usize) -> bool
+fn write<R: Print>(rt: &R, buffer: &[u8], at: usize) -> bool
     requires { at ≤ length buffer.now }
 {
-    io::write_all(STDOUT_FILENO, &buffer[..at])
+    rt.write_all(&buffer[..at]).is_ok()
 }
 
-pub fn make_room(buffer: &[u8], at: usize) -> Room
+pub fn make_room<R: Print>(rt: &R, buffer: &[u8], at: usize) -> Room
     requires at_in_bounds { at ≤ length buffer.now }
     requires in_bounds { 65 ≤ length buffer.now }
     ensures { Fits (length buffer.now) result }
@@ -33,28 +33,28 @@ pub fn make_room(buffer: &[u8], at: usize) -> Room
     if lines::LINE <= buffer.len() - at {
         return Room::At(at);
     }
-    if write(buffer, at) {
+    if write(rt, buffer, at) {
         return Room::At(0);
     }
     Room::Unwritten
 }
 
 // Says that a write failed, and answers the status.
-pub fn fail() -> u8
+pub fn fail<R: Eprint>(rt: &R) -> u8
     ensures { result ≡ 3 }
 {
-    io::write_all(STDERR_FILENO, b"listing: cannot write standard output\n");
+    let _ = rt.eprintln("listing: cannot write standard output");
     UNWRITTEN
 }
 
 // Writes the last of the output, and answers the status.
-pub fn finish(buffer: &[u8], at: usize, status: u8) -> u8
+pub fn finish<R: Print + Eprint>(rt: &R, buffer: &[u8], at: usize, status: u8) -> u8
     requires at_in_bounds { at ≤ length buffer.now }
     requires status_bound { status ≤ 3 }
     ensures { result ≤ 3 }
 {
-    if write(buffer, at) {
+    if write(rt, buffer, at) {
         return status;
     }
-    fail()
+    fail(rt)
 }

@@ -7,6 +7,8 @@ ghost use Rattle.std.specs.Prelude.{◌+◌, ◌*◌, ◌≤◌, ◌<◌, length
 ghost use Rattle.tree.specs.Levels.{Stretch};
 
 use descent::keys_up_to;
+use std::io;
+use std::io::Print;
 use tree::{append, index_words};
 
 // The leaf that opened the node of a separator, and the word of that node.
@@ -247,12 +249,8 @@ fn build(index: &mut [u64], d: usize, k: usize)
     }
 }
 
-fn print_line(d: u64, wrong: u64) {
-    io::write_all(1, b"order ");
-    io::print_decimal(1, d);
-    io::write_all(1, b": ");
-    io::print_decimal(1, wrong);
-    io::write_all(1, b" wrong\n");
+fn print_line<R: Print>(rt: &R, d: u64, wrong: u64) -> io::Result<()> {
+    println!(rt; "order {d}: {wrong} wrong")
 }
 
 // The words that no key and no separator takes: zeros up to the last node, and past it what was there.
@@ -278,14 +276,14 @@ fn wrong_rest(index: &[u64], d: usize, k: usize, words: usize) -> u64
     )
 }
 
-fn report(d: usize)
+fn report<R: Print>(rt: &R, d: usize) -> io::Result<()>
     requires le_d { 2 ≤ d }
     requires d_bound { d ≤ 64 }
 {
     let mut index = [7777777u64; 5120];
     let words = index_words(d, 2500);
     if 5120 < words {
-        return;
+        return Ok(());
     }
     build(&mut index, d, 2500);
     let rest = wrong_rest(&index, d, 2500, words);
@@ -294,16 +292,18 @@ fn report(d: usize)
     if rest < 1000000 {
         if keys < 1000000 {
             if counts < 1000000 {
-                print_line(d as u64, rest + keys + counts);
+                return print_line(rt, d as u64, rest + keys + counts);
             }
         }
     }
+    Ok(())
 }
 
-fn main() {
+fn main(rt: HostRuntime) -> io::Result<()> {
     let mut d = 2;
     while d <= 64 {
-        report(d);
+        report(&rt, d)?;
         d += 1;
     }
+    Ok(())
 }

@@ -1,0 +1,9 @@
+-- `tree_cases::opens` is safe and ends. Invariant: something is left. Measure: what is left. Assumes nothing.
+use Prim.Native.Nat.{◌<◌}
+use Rattle.tree_cases.proofs.opens.Given as goal
+
+abbrev pub invariant-loop-left : goal.invariant-loop-left
+invariant-loop-left l = 0 < l.left
+
+abbrev pub decreases-loop-left : goal.decreases-loop-left
+decreases-loop-left l = l.left
