@@ -226,7 +226,7 @@ def main():
             ts, _ = declared(t)
             kept |= {n for n in ts if not re.match(r"[a-z]+[A-Z]\w*$", n)}
         if p.endswith(".rt"):
-            kept |= {n for n in table if "-" in n and not re.search(r"[A-Z]", n) and n not in t}
+            kept |= {n for n in table if re.fullmatch(r"[a-z0-9_]+", n)}  # these may be functions
         clash(p, t, kept)
         new = turn(t, kept)
         if new != t:

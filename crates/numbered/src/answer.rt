@@ -238,7 +238,7 @@ pub fn position_out(answer: PositionAnswer) -> YkPosition
     }
 }
 
-pub fn later_of_lem(side: Side) -> u8
+pub fn later_of(side: Side) -> u8
     ensures { result ≡ later_of side }
 {
     match side {
@@ -258,7 +258,7 @@ pub fn table_out(answer: TableAnswer) -> YkTable
         } => YkTable {
             question: 0,
             rows,
-            later: later_of_lem(side),
+            later: later_of(side),
             between,
         },
         TableAnswer::Refused(why) => YkTable {

@@ -88,7 +88,7 @@ pub fn view_out(limit: u32, areas: usize, current: usize, answer: ViewAnswer) ->
                 place: place_out(place),
                 area: area_out(place),
                 rows,
-                later: later_of_lem(side),
+                later: later_of(side),
                 between,
                 start: span.start,
                 length: span.length,

@@ -1,0 +1,16 @@
+-- `numbered::outset::place_out` meets its contract. Assumes nothing.
+use Rattle.numbered.specs.Answers.{place_out}
+use Rattle.std.proofs.Common.{rules}
+use Rattle.numbered.proofs.outset.place_out.Goals as goal
+
+pub returns-in-Empty : goal.returns-in-Empty
+unfolding place_out
+returns-in-Empty c = rw c.in-Empty.is
+
+pub returns-in-Area : goal.returns-in-Area
+unfolding place_out
+returns-in-Area c = rw c.in-Area.is
+
+pub returns-in-Current : goal.returns-in-Current
+unfolding place_out
+returns-in-Current c = rw c.in-Current.is

@@ -1,0 +1,16 @@
+-- `numbered::outset::view_out` meets its contract. Assumes nothing.
+use Rattle.numbered.specs.Answers.{view_out}
+use Rattle.std.proofs.Common.{rules}
+use Rattle.answers.proofs.question.Reads as question-reads
+use Rattle.numbered.proofs.outset.area_out.Reads as area-out-reads
+use Rattle.numbered.proofs.outset.place_out.Reads as place-out-reads
+use Rattle.numbered.proofs.outset.span_of.Reads as span-of-reads
+use Rattle.numbered.proofs.outset.view_out.Goals as goal
+
+pub returns-in-Outset : goal.returns-in-Outset
+unfolding view_out
+returns-in-Outset c = rw (c.in-Outset.is, c.span_of-span.ensures, c.place_out.ensures, c.area_out.ensures, c.later_of.ensures)
+
+pub returns-in-Refused : goal.returns-in-Refused
+unfolding view_out
+returns-in-Refused c = rw (c.in-Refused.is, c.question.ensures)
