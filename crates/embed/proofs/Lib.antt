@@ -1,3 +1,0 @@
-pub mod Operands
-pub mod Appends
-pub mod Files

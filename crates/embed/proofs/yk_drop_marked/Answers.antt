@@ -1,0 +1,20 @@
+-- `embed::yk_drop_marked` meets its contract: the entries are closed up as the areas are. Assumes nothing.
+use mathlib.Core.Path.{◌≡◌}
+use native.Mathlib.Omega.{arith}
+use lib.ListN.{length}
+use Rattle.model.specs.declared.Entry.{Entry}
+use Rattle.catalogue.specs.declared.Going.{Going}
+use Rattle.catalogue.specs.declared.Going.TheVariants.{Marked}
+use Rattle.catalogue.specs.Candidates.{used_in}
+use Rattle.catalogue.specs.Entries.{staying_of}
+use Rattle.entries.proofs.Callers.{says_used}
+use Rattle.embed.proofs.yk_drop_marked.Goals as goal
+
+pub returns : goal.returns
+returns c =
+    let a = c.args in
+    let ys = a.entries.now in
+    let e : c.staying-x.result ≡ staying_of (Marked a.mark) (used_in a.s ys) (length ys) = rw c.of_mark.ensures at c.staying-x.ensures.is in
+    let few = c.drop_marked-r.ensures.few in
+    let says = says_used (Marked a.mark) a.s ys c.drop_marked-r.result.over e few.0 (rw e at few.1.0) few.1.1 in
+    rw (c.cleared_answer.ensures, c.remove.ensures (Marked a.mark) says) (c.drop_marked-r.ensures.kept ys e)
