@@ -16,7 +16,6 @@ use Rattle.tree.proofs.Stretches.{stretch_length}
 use Rattle.catalogue.specs.declared.Candidates.{Candidates}
 use Rattle.tables.proofs.Answers.{ready_of}
 use Rattle.comparing.proofs.Answers.{net_header, net_output_short, net_workspace_short, net_answers}
-use Rattle.std.proofs.Common.{rules}
 use Rattle.comparing.proofs.net_change.Goals as goal
 
 pub returns-else-is_sound : goal.returns-else-is_sound
@@ -50,11 +49,14 @@ pub work_out_both-n-requires : goal.work_out_both-n-requires
 unfolding answered_time
 work_out_both-n-requires c =
     let x = c.args in
-    let fine = c.is_sound.ensures.means c.if-is_sound.true in record { both_ready = record {
+    let fine = c.is_sound.ensures.means c.if-is_sound.true in record {
+      both_ready = record {
         first_ready = ready_of fine (omega (arith, c.answered_time-from.ensures)) refl;
         second_ready = ready_of fine (omega (arith, c.answered_time-to.ensures)) refl;
         work_is = length-take-le (16 * x.s.limit - 0) x.work.now (omega arith) ∙ sub-zero (16 * x.s.limit);
-      }; seen = c.requires }
+      };
+      seen = c.requires;
+    }
 
 pub returns : goal.returns
 unfolding net_change_outcome refusal AreBytes

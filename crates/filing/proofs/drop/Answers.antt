@@ -3,7 +3,6 @@
 use mathlib.Core.Path.{sym, ◌∙◌}
 use Rattle.model.specs.Answers.{verdict_outcome, refusal}
 use Rattle.filing.proofs.Drops.{drop-header, drop-none, drop_answered}
-use Rattle.std.proofs.Common.{rules}
 use Rattle.filing.proofs.drop.Goals as goal
 
 pub returns-else-is_sound : goal.returns-else-is_sound

@@ -3,7 +3,6 @@
 use mathlib.Core.Path.{sym, ◌∙◌}
 use Rattle.model.specs.Answers.{drop_marked_outcome, refusal}
 use Rattle.filing.proofs.Drops.{marked-header, marked_wrong, marked_answered}
-use Rattle.std.proofs.Common.{rules}
 use Rattle.filing.proofs.drop_marked.Goals as goal
 
 pub returns-else-is_sound : goal.returns-else-is_sound

@@ -10,7 +10,6 @@ use Rattle.tree.proofs.Stretches.{stretch_length}
 use Rattle.limits.proofs.FitLaws.{capacity_sixteen, capacity_entries, capacity_areas}
 use Rattle.tables.proofs.Answers.{ready_of}
 use Rattle.filing.proofs.Keeps.{refused_keeps, answered_keeps, keep_header, keep_late, keep_wrong_mark, keep_zero, keep_twice, keep_full, keep_asks-none}
-use Rattle.std.proofs.Common.{rules}
 use Rattle.filing.proofs.keep.Goals as goal
 
 pub returns-else-is_sound : goal.returns-else-is_sound

@@ -4,13 +4,12 @@ use mathlib.Core.Path.{◌≡◌, sym, ap, ◌∙◌}
 use mathlib.Core.List.{List}
 use native.Mathlib.Omega.{arith}
 use native.Mathlib.Nat.{sub-zero}
-use lib.ListN.{length, length-append, length-take, length-drop}
+use lib.ListN.{length, length-take, length-drop}
 use lib.Seq.{take_at}
 use Rattle.tree.specs.Places.{stretch_of}
 use Rattle.catalogue.proofs.CandidateLaws.{used_all}
 use Rattle.areas.specs.Moved.{area_put}
 use Rattle.filing.proofs.Keeping.{kept-file_of}
-use Rattle.std.proofs.Common.{rules}
 use Rattle.filing.proofs.keep_file.Goals as goal
 
 pub returns : goal.returns

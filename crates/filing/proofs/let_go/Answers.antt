@@ -1,5 +1,4 @@
 -- `filing::let_go` meets its contract: areas and entries, each closed up by itself, are those of the reduced store. Assumes nothing.
-use Rattle.std.proofs.Common.{rules}
 use Rattle.filing.proofs.Letting.{let_go_of}
 use Rattle.filing.proofs.let_go.Goals as goal
 
