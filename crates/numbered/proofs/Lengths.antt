@@ -1,10 +1,10 @@
 -- A start clears no more entries than are lent: neither fresh store nor opening makes the catalogue longer. Assumes nothing.
-use Prim.Native.Nat.{ℕ, zero, suc, ◌+◌, ◌-◌, ◌≤◌, min}
-use mathlib.Core.Path.{◌≡◌, refl, sym, ap, ◌∙◌}
-use mathlib.Core.List.{List, [], ◌∷◌, ◌++◌}
+use Prim.Native.Nat.{ℕ, zero, suc, ◌+◌, ◌-◌, ◌≤◌}
+use mathlib.Core.Path.{◌≡◌, refl, ap, ◌∙◌}
+use mathlib.Core.List.{List, []}
 use mathlib.Core.Bool.{Bool, true, false, cond}
 use native.Mathlib.Omega.{arith}
-use lib.ListN.{length, take, drop, replicate, length-append, length-drop, length-replicate}
+use lib.ListN.{length, replicate, length-append, length-drop, length-replicate}
 use Rattle.codec.specs.Parts.{zeros, put}
 use Rattle.model.specs.declared.Entry.{Entry}
 use Rattle.model.specs.Answers.{answers, refuses_at, first_no, unless_no}

@@ -1,8 +1,6 @@
 -- `numbered::audit` meets its contract. Assumes nothing.
 use mathlib.Core.Path.{ap, ◌∙◌}
 use Rattle.tree.specs.Places.{stretch_of}
-use Rattle.tree.proofs.Stretches.{seen_stretch}
-use Rattle.std.proofs.Common.{rules}
 use Rattle.numbered.specs.Answers.{yes_out}
 use Rattle.numbered.proofs.audit.Goals as goal
 

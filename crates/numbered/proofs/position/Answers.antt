@@ -1,9 +1,5 @@
 -- `numbered::position` meets its contract. Assumes nothing.
 use Rattle.tree.specs.Places.{stretch_of}
-use Rattle.tree.proofs.Stretches.{seen_stretch}
-use Rattle.std.proofs.Common.{rules}
-use Rattle.numbered.proofs.answer.position_out.Reads as position-out-reads
-use Rattle.tables.proofs.position.Reads as position-reads
 use Rattle.numbered.proofs.position.Goals as goal
 
 pub returns : goal.returns

@@ -1,9 +1,5 @@
 -- `numbered::table` meets its contract. Assumes nothing.
 use Rattle.tree.specs.Places.{stretch_of}
-use Rattle.tree.proofs.Stretches.{seen_stretch}
-use Rattle.std.proofs.Common.{rules}
-use Rattle.numbered.proofs.answer.table_out.Reads as table-out-reads
-use Rattle.tables.proofs.table.Reads as table-reads
 use Rattle.numbered.proofs.table.Goals as goal
 
 pub returns : goal.returns

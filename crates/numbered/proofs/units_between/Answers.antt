@@ -1,9 +1,5 @@
 -- `numbered::units_between` meets its contract. Assumes nothing.
 use Rattle.tree.specs.Places.{stretch_of}
-use Rattle.tree.proofs.Stretches.{seen_stretch}
-use Rattle.std.proofs.Common.{rules}
-use Rattle.numbered.proofs.answer.difference_out.Reads as difference-out-reads
-use Rattle.units.proofs.between.Reads as between-reads
 use Rattle.numbered.proofs.units_between.Goals as goal
 
 pub returns : goal.returns

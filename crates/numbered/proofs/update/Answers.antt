@@ -1,7 +1,5 @@
 -- `numbered::update` meets its contract. Assumes nothing.
 use Rattle.tree.specs.Places.{stretch_of}
-use Rattle.tree.proofs.Stretches.{seen_stretch}
-use Rattle.std.proofs.Common.{rules}
 use Rattle.numbered.proofs.update.Goals as goal
 
 pub returns : goal.returns

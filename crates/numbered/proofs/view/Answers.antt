@@ -1,10 +1,6 @@
 -- `numbered::view` meets its contract. Assumes nothing.
 use Rattle.numbered.proofs.Spans.{span-part, span_within}
 use Rattle.tree.specs.Places.{stretch_of}
-use Rattle.tree.proofs.Stretches.{seen_stretch}
-use Rattle.std.proofs.Common.{rules}
-use Rattle.numbered.proofs.outset.view_out.Reads as view-out-reads
-use Rattle.tables.proofs.view.Reads as view-reads
 use Rattle.numbered.proofs.view.Goals as goal
 
 pub returns : goal.returns

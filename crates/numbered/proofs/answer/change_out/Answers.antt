@@ -1,6 +1,5 @@
 -- `numbered::answer::change_out` meets its contract. Assumes nothing.
 use Rattle.numbered.specs.Answers.{change_out}
-use Rattle.std.proofs.Common.{rules}
 use Rattle.numbered.proofs.answer.change_out.Goals as goal
 
 pub returns-in-Accepted : goal.returns-in-Accepted

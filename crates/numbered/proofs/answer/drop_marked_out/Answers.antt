@@ -1,6 +1,5 @@
 -- `numbered::answer::drop_marked_out` meets its contract. Assumes nothing.
 use Rattle.numbered.specs.Answers.{drop_marked_out}
-use Rattle.std.proofs.Common.{rules}
 use Rattle.numbered.proofs.answer.drop_marked_out.Goals as goal
 
 pub returns-in-Gone : goal.returns-in-Gone

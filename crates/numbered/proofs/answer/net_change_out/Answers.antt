@@ -1,6 +1,5 @@
 -- `numbered::answer::net_change_out` meets its contract. Assumes nothing.
 use Rattle.numbered.specs.Answers.{net_change_out}
-use Rattle.std.proofs.Common.{rules}
 use Rattle.numbered.proofs.answer.net_change_out.Goals as goal
 
 pub returns-in-Entries : goal.returns-in-Entries

@@ -1,6 +1,5 @@
 -- `numbered::answer::position_out` meets its contract. Assumes nothing.
 use Rattle.numbered.specs.Answers.{position_out}
-use Rattle.std.proofs.Common.{rules}
 use Rattle.numbered.proofs.answer.position_out.Goals as goal
 
 pub returns-in-At : goal.returns-in-At

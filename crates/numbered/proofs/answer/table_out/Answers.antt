@@ -1,6 +1,5 @@
 -- `numbered::answer::table_out` meets its contract. Assumes nothing.
 use Rattle.numbered.specs.Answers.{table_out}
-use Rattle.std.proofs.Common.{rules}
 use Rattle.numbered.proofs.answer.table_out.Goals as goal
 
 pub returns-in-Table : goal.returns-in-Table

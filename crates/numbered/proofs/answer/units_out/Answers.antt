@@ -1,6 +1,5 @@
 -- `numbered::answer::units_out` meets its contract. Assumes nothing.
 use Rattle.numbered.specs.Answers.{units_out}
-use Rattle.std.proofs.Common.{rules}
 use Rattle.numbered.proofs.answer.units_out.Goals as goal
 
 pub returns-in-Units : goal.returns-in-Units

@@ -1,6 +1,5 @@
 -- `numbered::needed::lengths_out` meets its contract. Assumes nothing.
 use Rattle.numbered.specs.Answers.{lengths_out}
-use Rattle.std.proofs.Common.{rules}
 use Rattle.numbered.proofs.needed.lengths_out.Goals as goal
 
 pub returns-in-Lend : goal.returns-in-Lend

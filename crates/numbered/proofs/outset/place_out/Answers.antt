@@ -1,6 +1,5 @@
 -- `numbered::outset::place_out` meets its contract. Assumes nothing.
 use Rattle.numbered.specs.Answers.{place_out}
-use Rattle.std.proofs.Common.{rules}
 use Rattle.numbered.proofs.outset.place_out.Goals as goal
 
 pub returns-in-Empty : goal.returns-in-Empty

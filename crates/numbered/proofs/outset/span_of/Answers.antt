@@ -1,8 +1,5 @@
 -- `numbered::outset::span_of` meets its contract. Assumes nothing.
 use Rattle.numbered.specs.Answers.{span_of}
-use Rattle.std.proofs.Common.{rules}
-use Rattle.codec.proofs.least.Reads as least-reads
-use Rattle.tables.proofs.area_start.Reads as area-start-reads
 use Rattle.numbered.proofs.outset.span_of.Goals as goal
 
 pub returns-in-Empty : goal.returns-in-Empty

@@ -1,10 +1,5 @@
 -- `numbered::outset::view_out` meets its contract. Assumes nothing.
 use Rattle.numbered.specs.Answers.{view_out}
-use Rattle.std.proofs.Common.{rules}
-use Rattle.answers.proofs.question.Reads as question-reads
-use Rattle.numbered.proofs.outset.area_out.Reads as area-out-reads
-use Rattle.numbered.proofs.outset.place_out.Reads as place-out-reads
-use Rattle.numbered.proofs.outset.span_of.Reads as span-of-reads
 use Rattle.numbered.proofs.outset.view_out.Goals as goal
 
 pub returns-in-Outset : goal.returns-in-Outset
