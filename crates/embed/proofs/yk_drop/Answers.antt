@@ -1,9 +1,6 @@
 -- `embed::yk_drop` meets its contract: the entries are closed up as the areas are. Assumes nothing.
 use mathlib.Core.Path.{◌≡◌}
-use native.Mathlib.Omega.{arith}
 use lib.ListN.{length}
-use Rattle.model.specs.declared.Entry.{Entry}
-use Rattle.catalogue.specs.declared.Going.{Going}
 use Rattle.catalogue.specs.declared.Going.TheVariants.{Of}
 use Rattle.catalogue.specs.Candidates.{used_in}
 use Rattle.catalogue.specs.Entries.{staying_of}
