@@ -1,10 +1,8 @@
-use Prim.Native.Nat.{◌+◌, ◌*◌, ◌-◌, ◌≤◌}
-use mathlib.Core.Path.{◌≡◌, refl, ◌∙◌}
+use Prim.Native.Nat.{◌*◌}
 use native.Mathlib.Omega.{arith}
 use lib.ListN.{length}
 use Rattle.codec.proofs.PartLaws.{put-zeros}
-use Rattle.netting.specs.Merge.{Passes}
-use Rattle.netting.proofs.Passing.{passes_same, passes_then, merges}
+use Rattle.netting.proofs.Passing.{merges}
 use Rattle.netting.proofs.merge.Goals as goal
 
 pub returns : goal.returns

@@ -1,12 +1,9 @@
 -- `netting::merge` meets its contract. Invariant: k entries stand in the output, at most one for each row passed, and the net
 -- change of the rows not yet passed is what they lack to the whole. Measure: the rows not yet passed. Assumes nothing.
-use Prim.Native.Nat.{◌+◌, ◌*◌, ◌-◌, ◌≤◌}
-use mathlib.Core.Path.{◌≡◌, refl, ◌∙◌}
-use native.Mathlib.Omega.{arith}
+use Prim.Native.Nat.{◌+◌, ◌-◌, ◌≤◌}
+use mathlib.Core.Path.{◌≡◌}
 use lib.ListN.{length}
-use Rattle.codec.proofs.PartLaws.{put-zeros}
 use Rattle.netting.specs.Merge.{Passes}
-use Rattle.netting.proofs.Passing.{passes_same, passes_then, merges}
 use Rattle.netting.proofs.merge.Given as goal
 
 abbrev pub invariant-loop-i : goal.invariant-loop-i

@@ -3,7 +3,6 @@ use mathlib.Core.Path.{◌≡◌, sym, ◌∙◌}
 use native.Mathlib.Omega.{arith}
 use Rattle.rows.specs.Table.{count_at}
 use Rattle.netting.proofs.Passing.{head_smaller, head_same, passes_gone, passes_come, passes_kept, passes_recounted}
-use Rattle.std.proofs.Common.{rules}
 use Rattle.netting.proofs.pass.Goals as goal
 
 pub returns-then-x-y : goal.returns-then-x-y

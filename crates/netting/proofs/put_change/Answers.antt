@@ -3,7 +3,6 @@ use Prim.Native.Nat.{◌*◌}
 use mathlib.Core.Path.{◌∙◌}
 use native.Mathlib.Omega.{arith}
 use Rattle.netting.proofs.ChangeBytes.{change_put}
-use Rattle.std.proofs.Common.{rules}
 use Rattle.netting.proofs.put_change.Goals as goal
 
 pub returns : goal.returns

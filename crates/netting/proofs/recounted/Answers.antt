@@ -7,7 +7,6 @@ use Rattle.codec.proofs.PartLaws.{put-append}
 use Rattle.model.specs.NetChange.{change_bytes}
 use Rattle.netting.specs.Merge.{change_at}
 use Rattle.netting.proofs.ChangeBytes.{length_change_bytes}
-use Rattle.std.proofs.Common.{rules}
 use Rattle.netting.proofs.recounted.Goals as goal
 
 pub returns : goal.returns

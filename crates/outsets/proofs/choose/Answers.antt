@@ -4,7 +4,6 @@ use Prim.Native.Nat.{ℕ}
 use mathlib.Core.List.{List}
 use Rattle.tree.specs.Places.{stretch_of}
 use Rattle.outsets.proofs.Nearness.{nearest_later, nearest_earlier}
-use Rattle.std.proofs.Common.{rules}
 use Rattle.outsets.proofs.choose.Goals as goal
 
 pub returns-then-ahead-back : goal.returns-then-ahead-back

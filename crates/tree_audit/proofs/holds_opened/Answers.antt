@@ -1,8 +1,7 @@
 -- `tree_audit::holds_opened` meets its contract. Assumes nothing.
 use native.Mathlib.Omega.{arith}
 use Rattle.tree_audit.specs.Times.{Decides}
-use Rattle.tree_audit.proofs.Standings.{opened_few, opened_after, decides_where}
-use Rattle.std.proofs.Common.{rules}
+use Rattle.tree_audit.proofs.Standings.{decides_where}
 use Rattle.tree_audit.proofs.holds_opened.Goals as goal
 
 pub returns-then-span-eq0 : goal.returns-then-span-eq0

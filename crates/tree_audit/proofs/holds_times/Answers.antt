@@ -1,9 +1,6 @@
-use Prim.Native.Nat.{◌≤◌, ◌+◌, ◌*◌, ◌-◌}
 use mathlib.Core.Path.{◌≡◌, sym, ap, ◌∙◌}
 use native.Mathlib.Omega.{arith}
-use native.Mathlib.Nat.{mul-le-mul_right}
-use Rattle.tree_audit.specs.Times.{Decides, time_in, TimesAt}
-use Rattle.tree_audit.proofs.Words.{times_none, times_more}
+use Rattle.tree_audit.specs.Times.{Decides, time_in}
 use Rattle.tree_audit.proofs.holds_times.Goals as goal
 
 pub returns-then-words-at : goal.returns-then-words-at

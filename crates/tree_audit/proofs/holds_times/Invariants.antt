@@ -1,11 +1,8 @@
 -- `tree_audit::holds_times` meets its contract. Invariant: the words before word i are their times, and k is the record of
 -- word i. Measure: the words that are left. Assumes nothing.
 use Prim.Native.Nat.{◌≤◌, ◌+◌, ◌*◌, ◌-◌}
-use mathlib.Core.Path.{◌≡◌, sym, ap, ◌∙◌}
-use native.Mathlib.Omega.{arith}
-use native.Mathlib.Nat.{mul-le-mul_right}
-use Rattle.tree_audit.specs.Times.{Decides, time_in, TimesAt}
-use Rattle.tree_audit.proofs.Words.{times_none, times_more}
+use mathlib.Core.Path.{◌≡◌}
+use Rattle.tree_audit.specs.Times.{TimesAt}
 use Rattle.tree_audit.proofs.holds_times.Given as goal
 
 abbrev pub invariant-loop-i : goal.invariant-loop-i

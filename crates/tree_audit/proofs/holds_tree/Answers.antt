@@ -1,12 +1,9 @@
-use Prim.Native.Nat.{◌≤◌, ◌-◌}
 use mathlib.Core.Path.{◌∙◌}
 use native.Mathlib.Omega.{arith}
-use native.Mathlib.Nat.{mul-le-mul}
 use Rattle.tree_audit.specs.Times.{Decides}
 use Rattle.tree_audit.proofs.Standings.{tree_held, tree_not_held}
-use Rattle.tree.specs.Places.{place_of}
 use Rattle.tree.proofs.PlaceLaws.{reached_wide}
-use Rattle.tree_audit.proofs.Walks.{Walked, walked_none, walked_all, walked_few, walked_small, node_small, node_reached, leaf_reached}
+use Rattle.tree_audit.proofs.Walks.{walked_none, walked_all, walked_small, node_small, node_reached, leaf_reached}
 use Rattle.tree_audit.proofs.Walks.{walked_openable, walked_readable, walked_leaf, walked_not_opened, walked_not_leaf, walked_next}
 use Rattle.tree_audit.proofs.holds_tree.Goals as goal
 

@@ -4,8 +4,7 @@ use mathlib.Core.Path.{◌≡◌, sym, ◌∙◌}
 use native.Mathlib.Omega.{arith}
 use Rattle.model.specs.Shape.{cofactor}
 use Rattle.tree.proofs.Hosts.{opens-none}
-use Rattle.tree_audit.proofs.Standings.{span_none, span-some, not_opens, is_opening, full_pos, below_fits, span_is, span_few}
-use Rattle.std.proofs.Common.{rules}
+use Rattle.tree_audit.proofs.Standings.{span_none, span-some, not_opens, is_opening, full_pos, span_is, span_few}
 use Rattle.tree_audit.proofs.span_of.Goals as goal
 
 pub returns-then-m-eq0 : goal.returns-then-m-eq0

@@ -1,7 +1,6 @@
 -- `tree_audit::time_in` meets its contract. Assumes nothing.
 use mathlib.Core.Path.{sym, ◌∙◌}
 use Rattle.tree_audit.proofs.Words.{time_there, time_past}
-use Rattle.std.proofs.Common.{rules}
 use Rattle.tree_audit.proofs.time_in.Goals as goal
 
 pub returns-then-k-stop : goal.returns-then-k-stop
