@@ -28,13 +28,12 @@ fn join_area(areas: &mut [u8], size: usize, stays: bool, i: usize, j: usize) -> 
     ensures is { areas.new ≡ area_joined stays size i j areas.old }
     ensures next { result ≡ cond stays (j + 1) j }
 {
-    if stays {} else {
+    if !stays {
         return j;
     }
-    if i == j {
-        return j + 1;
+    if i != j {
+        codec::move_down(areas, size * j, size * i, size);
     }
-    codec::move_down(areas, size * j, size * i, size);
     j + 1
 }
 
@@ -46,11 +45,9 @@ pub fn close_areas(areas: &mut [u8], limit: u32, files: usize, x: Staying)
         → areas.new ≡ areas_closed (stays_when going) limit files es areas.old }
 {
     let size = 8 * (limit as usize);
-    let mut i = 0;
     let mut j = 0;
-    while i < files {
+    for i in 0..files {
         j = join_area(areas, size, catalogue::stays_at(x, i), i, j);
-        i += 1;
     }
     codec::fill_zero(&mut areas[size * j..size * files]);
 }

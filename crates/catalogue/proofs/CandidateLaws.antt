@@ -10,66 +10,40 @@ use native.Mathlib.Nat.{zero-add, add-zero, suc-add, add-suc}
 use lib.ListN.{length, take, get_or}
 use lib.Seq.{take-suc, length-take-le, take_all}
 use lib.Dec.{leb, ltb}
-use borrow.Author.Tests.{ne_eqb, leb-true, leb-false}
+use borrow.Author.Tests.{leb-true, leb-false}
 use Rattle.model.specs.declared.Numbers.{Numbers}
 use Rattle.model.specs.declared.Entry.{Entry}
 use Rattle.model.specs.declared.Held.{Held}
-use Rattle.model.specs.declared.Place.{Place}
-use Rattle.model.specs.declared.Place.TheVariants.{Empty, Current}
 use Rattle.model.specs.Memory.{no_entry}
 use Rattle.model.specs.Outset.{empty_table, files_from, latest, earliest}
 use Rattle.model.specs.Queries.{answered_time}
-use Rattle.catalogue.specs.declared.Near.{Near}
-use Rattle.catalogue.specs.declared.Around.{Around}
 use Rattle.catalogue.specs.declared.Candidates.{Candidates}
-use Rattle.catalogue.specs.Candidates.{held_now, used_in, candidates_in, PlaceWithin, near_at, none_around, nearer_by, around_from, held_by}
+use Rattle.catalogue.specs.Candidates.{held_now, used_in, candidates_in, PlaceWithin, none_around, nearer_by, around_from}
 
 -- ---- one entry more
 
-pub around_none : (t : ℕ) (a : Around) (es : List Entry) → around_from t a 0 (take 0 es) ≡ a
+pub around_none : (t : ℕ) (c : Candidates) (es : List Entry) → around_from t c 0 (take 0 es) ≡ c
 unfolding around_from
-around_none t a es = refl
+around_none t c es = refl
 
-around_append : (t : ℕ) (a : Around) (i : ℕ) (es : List Entry) (e : Entry)
-    → around_from t a i (es ++ (e ∷ [])) ≡ nearer_by t (around_from t a i es) (i + length es) e
+around_append : (t : ℕ) (c : Candidates) (i : ℕ) (es : List Entry) (e : Entry)
+    → around_from t c i (es ++ (e ∷ [])) ≡ nearer_by t (around_from t c i es) (i + length es) e
 unfolding around_from
-around_append t a i [] e = rw add-zero
-around_append t a i (x ∷ xs) e = around_append t (nearer_by t a i x) (suc i) xs e ∙ rw (suc-add, ← add-suc)
+around_append t c i [] e = rw add-zero
+around_append t c i (x ∷ xs) e = around_append t (nearer_by t c i x) (suc i) xs e ∙ rw (suc-add, ← add-suc)
 
-pub around_next : (t : ℕ) (a : Around) (es : List Entry) (i : ℕ) → i < length es
-    → nearer_by t (around_from t a 0 (take i es)) i (get_or es i no_entry) ≡ around_from t a 0 (take (i + 1) es)
-around_next t a es i h =
+pub around_next : (t : ℕ) (c : Candidates) (es : List Entry) (i : ℕ) → i < length es
+    → nearer_by t (around_from t c 0 (take i es)) i (get_or es i no_entry) ≡ around_from t c 0 (take (i + 1) es)
+around_next t c es i h =
     let l : length (take i es) ≡ i = length-take-le i es (omega arith) in
-    sym (rw (add-one, take-suc es i no_entry h) (around_append t a 0 (take i es) (get_or es i no_entry) ∙ rw (zero-add, l)))
+    sym (rw (add-one, take-suc es i no_entry h) (around_append t c 0 (take i es) (get_or es i no_entry) ∙ rw (zero-add, l)))
 
--- ---- as held
-
-module _ (none : Place) (t : ℕ) where
-  held-entry : (i : ℕ) (e : Entry) → i < 16 → held_by none (near_at i e) ≡ get_or (files_from i (e ∷ [])) 0 empty_table
-  unfolding files_from
-  held-entry i e h = rw (ne_eqb i 16 (omega arith))
-
-  held-cond : (b : Bool) (x y : Near) → held_by none (cond b x y) ≡ cond b (held_by none x) (held_by none y)
-  held-cond true x y = refl
-  held-cond false x y = refl
-
-  pub early_held : (a : Around) (i : ℕ) (es : List Entry) → i + length es ≤ 16
-      → held_by none (around_from t a i es).early ≡ latest t (held_by none a.early) (files_from i es)
-  unfolding around_from latest files_from
-  early_held a i [] h = refl
-  early_held a i (e ∷ es) h =
-      let b : Bool = leb e.time t && ltb a.early.time e.time in
-      early_held (nearer_by t a i e) (suc i) es (omega arith)
-      ∙ ap (λ (x : Held). latest t x (files_from (suc i) es)) (held-cond b (near_at i e) a.early ∙ ap (λ (x : Held). cond b x (held_by none a.early)) (held-entry i e (omega arith)))
-
-  pub late-held : (a : Around) (i : ℕ) (es : List Entry) → i + length es ≤ 16
-      → held_by none (around_from t a i es).late ≡ earliest t (held_by none a.late) (files_from i es)
-  unfolding around_from earliest files_from
-  late-held a i [] h = refl
-  late-held a i (e ∷ es) h =
-      let b : Bool = leb t e.time && leb e.time a.late.time in
-      late-held (nearer_by t a i e) (suc i) es (omega arith)
-      ∙ ap (λ (x : Held). earliest t x (files_from (suc i) es)) (held-cond b (near_at i e) a.late ∙ ap (λ (x : Held). cond b x (held_by none a.late)) (held-entry i e (omega arith)))
+-- all of them: the latest and the earliest of the files that they hold
+around_all : (t : ℕ) (c : Candidates) (i : ℕ) (es : List Entry)
+    → around_from t c i es ≡ record { early = latest t c.early (files_from i es); late = earliest t c.late (files_from i es); lent = c.lent }
+unfolding around_from latest earliest files_from
+around_all t c i [] = refl
+around_all t c i (e ∷ es) = around_all t (nearer_by t c i e) (suc i) es
 
 -- ---- the used entries
 
@@ -97,12 +71,9 @@ pub used_all : (s : Numbers) (es : List Entry) → s.files ≤ 16 → used_in s 
 used_all s es h = let e : min 16 s.files ≡ s.files = omega arith in rw e
 
 pub candidates_are : (s : Numbers) (t : ℕ) (es : List Entry) (k at : ℕ) → k ≡ min (min 16 s.files) (length es) → at ≡ answered_time s.last t
-    → let a = around_from at (none_around s) 0 (take k es) in
-    ◌≡◌ {A = Candidates} (record { early = held_by Empty a.early; late = held_by Current a.late; lent = length es }) (candidates_in s t es)
+    → around_from at (none_around s (length es)) 0 (take k es) ≡ candidates_in s t es
 candidates_are s t es k at e f =
-    let used = used_looked s es k e in
-    let few : 0 + length (used_in s es) ≤ 16 = omega (arith, (used_few s es).0) in
-    rw (used, f, early_held Empty (answered_time s.last t) (none_around s) 0 (used_in s es) few, late-held Current (answered_time s.last t) (none_around s) 0 (used_in s es) few)
+    rw (used_looked s es k e, f) (around_all (answered_time s.last t) (none_around s (length es)) 0 (used_in s es))
 
 -- a time that is answered as itself has the same candidates
 pub candidates_answered : (s : Numbers) (t : ℕ) (es : List Entry) → candidates_in s (answered_time s.last t) es ≡ candidates_in s t es

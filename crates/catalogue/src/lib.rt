@@ -1,15 +1,14 @@
 // The catalogue of count files (01, "Count files"): its capacity, and what each of its entries comes to: which held tables are
-// nearest to a time, where a file of a time goes, which files stay. The lent slice of entries is gone along by the crate
-// `entries`; here is what it does with each.
+// nearest to a time, which files stay. The lent slice of entries is gone along by the crate `entries`; here is what it does with
+// each.
 #![tactic(auto)]
 
 ghost use Rattle.std.specs.Prelude.{◌≡◌, ◌&&◌, cond, ◌+◌, ◌*◌, ◌≤◌, ◌<◌, min, get_or, leb, ltb, eqb};
-ghost use Rattle.model.specs.declared.Place.TheVariants.{Empty, Area, Current};
 ghost use Rattle.model.specs.Marks as marks;
 ghost use Rattle.model.specs.Memory as memory;
 ghost use Rattle.model.specs.Memory.{no_entry};
 ghost use Rattle.model.specs.Queries.{answered_time};
-ghost use Rattle.catalogue.specs.Candidates.{near_at, none_around, nearer_by, held_by};
+ghost use Rattle.catalogue.specs.Candidates.{none_around, held_at, nearer_by};
 ghost use Rattle.catalogue.specs.declared.Going.TheVariants.{Of, Marked};
 ghost use Rattle.catalogue.specs.Entries.{stays_when, flag_at};
 
@@ -23,6 +22,7 @@ pub struct Catalogue {
 }
 
 // How many count files the lent entries and areas have room for.
+#[tactic(auto, unfolding(model::specs::Memory::capacity))]
 pub fn capacity(limit: u32, entries: usize, area_bytes: usize) -> usize
     requires le_limit { 1 ≤ limit }
     requires limit_bound { limit ≤ 1024 }
@@ -30,7 +30,7 @@ pub fn capacity(limit: u32, entries: usize, area_bytes: usize) -> usize
     ensures few { result ≤ 16 }
 {
     let areas = area_bytes / (8 * (limit as usize));
-    codec::least(Numbers::FILES_MAX, codec::least(entries, areas))
+    Numbers::FILES_MAX.min(entries.min(areas))
 }
 
 // How many of the lent entries are looked at, whatever the numbers say: those used, at most 16.
@@ -38,7 +38,7 @@ pub fn looked_at(files: u32, lent: usize) -> usize
     ensures is { result ≡ min (min 16 files) lent }
     ensures few { (result ≤ 16) × (result ≤ lent) }
 {
-    codec::least(codec::least(Numbers::FILES_MAX, files as usize), lent)
+    Numbers::FILES_MAX.min(files as usize).min(lent)
 }
 
 // Entry i of a catalogue by value.
@@ -62,22 +62,8 @@ pub fn no_entry() -> Entry
 
 // ---- the nearest held tables
 
-// A held table: its time, the number of its area, 16 where it is no count file's, and its rows.
-#[derive(Clone, Copy)]
-pub struct Near {
-    pub time: u64,
-    pub area: u32,
-    pub rows: u32,
-}
-
-// The nearest found so far at or before a time, and at or after it.
-#[derive(Clone, Copy)]
-pub struct Around {
-    pub early: Near,
-    pub late: Near,
-}
-
-// The two tables that an outset is chosen from, and how many entries are lent.
+// The two tables that an outset is chosen from, the nearest found so far at or before a time and at or after it, and how many
+// entries are lent.
 #[derive(Clone, Copy)]
 pub struct Candidates {
     pub early: Held,
@@ -86,153 +72,102 @@ pub struct Candidates {
 }
 
 // The time that a query answers where t is asked for: a time after the last request is answered as the last.
+#[tactic(auto, unfolding(model::specs::Queries::answered_time))]
 pub fn answered_time(last: u64, t: u64) -> u64
     ensures { result ≡ answered_time last t }
 {
-    if last < t {
-        return last;
-    }
-    t
+    last.min(t)
 }
 
 // Before any entry: the empty table of time 0, and the current table.
-pub fn none_around(s: Numbers) -> Around
-    ensures { result ≡ none_around s }
+pub fn none_around(s: Numbers, lent: usize) -> Candidates
+    ensures { result ≡ none_around s lent }
 {
-    Around {
-        early: Near {
+    Candidates {
+        early: Held {
             time: 0,
-            area: 16,
+            place: Place::Empty,
             rows: 0,
         },
-        late: Near {
+        late: Held {
             time: s.last,
-            area: 16,
+            place: Place::Current,
             rows: s.live,
         },
+        lent,
+    }
+}
+
+// The table of entry i.
+fn held_at(i: usize, e: Entry) -> Held
+    requires { i < 16 }
+    ensures { result ≡ held_at i e }
+{
+    Held {
+        time: e.time,
+        place: Place::Area(i as u32),
+        rows: e.rows,
     }
 }
 
 // The later of two tables, of those at or before t.
-fn later_one(best: Near, i: usize, e: Entry, t: u64) -> Near
+fn later_one(best: Held, i: usize, e: Entry, t: u64) -> Held
     requires { i < 16 }
-    ensures { result ≡ cond (leb e.time t && ltb best.time e.time) (near_at i e) best }
+    ensures { result ≡ cond (leb e.time t && ltb best.time e.time) (held_at i e) best }
 {
-    if t < e.time {
-        return best;
-    }
-    if e.time <= best.time {
-        return best;
-    }
-    Near {
-        time: e.time,
-        area: i as u32,
-        rows: e.rows,
+    if e.time <= t && best.time < e.time {
+        held_at(i, e)
+    } else {
+        best
     }
 }
 
 // The earlier of two tables, of those at or after t; a count file before the current table.
-fn earlier_one(best: Near, i: usize, e: Entry, t: u64) -> Near
+fn earlier_one(best: Held, i: usize, e: Entry, t: u64) -> Held
     requires { i < 16 }
-    ensures { result ≡ cond (leb t e.time && leb e.time best.time) (near_at i e) best }
+    ensures { result ≡ cond (leb t e.time && leb e.time best.time) (held_at i e) best }
 {
-    if e.time < t {
-        return best;
-    }
-    if best.time < e.time {
-        return best;
-    }
-    Near {
-        time: e.time,
-        area: i as u32,
-        rows: e.rows,
+    if t <= e.time && e.time <= best.time {
+        held_at(i, e)
+    } else {
+        best
     }
 }
 
 // The nearest tables with entry i besides.
-pub fn nearer(a: Around, i: usize, e: Entry, t: u64) -> Around
+pub fn nearer(c: Candidates, i: usize, e: Entry, t: u64) -> Candidates
     requires { i < 16 }
-    ensures { result ≡ nearer_by t a i e }
-{
-    let early = a.early;
-    let late = a.late;
-    Around {
-        early: later_one(early, i, e, t),
-        late: earlier_one(late, i, e, t),
-    }
-}
-
-// The place of a table: an area, or another where it is no count file's.
-fn place_or(area: u32, none: Place) -> Place
-    ensures { result ≡ cond (eqb area 16) none (Area area) }
-{
-    if area == 16 {
-        return none;
-    }
-    Place::Area(area)
-}
-
-// The two tables as held, where so many entries are lent.
-pub fn as_candidates(a: Around, lent: usize) -> Candidates
-    ensures { result ≡ record { early = held_by Empty a.early; late = held_by Current a.late; lent = lent } }
+    ensures { result ≡ nearer_by t c i e }
 {
     Candidates {
-        early: Held {
-            time: a.early.time,
-            place: place_or(a.early.area, Place::Empty),
-            rows: a.early.rows,
-        },
-        late: Held {
-            time: a.late.time,
-            place: place_or(a.late.area, Place::Current),
-            rows: a.late.rows,
-        },
-        lent,
+        early: later_one(c.early, i, e, t),
+        late: earlier_one(c.late, i, e, t),
+        ..c
     }
 }
 
 // ---- marks
 
 // Whether files are deleted by a mark.
+#[tactic(auto, unfolding(model::specs::Marks::goes))]
 pub fn goes(mark: u32) -> bool
     ensures { result ≡ marks.goes mark }
 {
-    if mark == Entry::FRIDAY {
-        return true;
-    }
-    mark == Entry::SUNDAY
+    mark == Entry::FRIDAY || mark == Entry::SUNDAY
 }
 
 // Whether a file may have a mark.
+#[tactic(auto, unfolding(model::specs::Marks::is_mark))]
 pub fn is_mark(mark: u32) -> bool
     ensures { result ≡ marks.is_mark mark }
 {
-    if mark == Entry::PERMANENT {
-        return true;
-    }
-    goes(mark)
-}
-
-// ---- one file more
-
-// The place for a file of time t among the entries up to i, that among those before being `at`: one on for each entry before
-// it whose time is smaller.
-pub fn place_past(at: usize, i: usize, e: Entry, t: u64) -> usize
-    requires { i < 16 }
-    ensures { result ≡ cond (eqb at i && ltb e.time t) (i + 1) at }
-{
-    if at != i {
-        return at;
-    }
-    if t <= e.time {
-        return at;
-    }
-    i + 1
+    mark == Entry::PERMANENT || goes(mark)
 }
 
 // ---- fewer files
 
-// Which count files go: that of a time, or those of a mark.
+// Which count files go: that of a time, or those of a mark. No closure stands in its place: the definitions `stays_when` and
+// `Says` of specs/ speak of it, and callers pass it on.
 #[derive(Clone, Copy)]
 pub enum Going {
     Of(u64),
@@ -263,6 +198,7 @@ pub fn of_mark(mark: u32) -> Going
 }
 
 // Whether the file of entry e stays where others go.
+#[tactic(auto, unfolding(crate::specs::Entries::stays_when))]
 fn stays(e: Entry, going: Going) -> bool
     ensures { result ≡ stays_when going e }
 {
@@ -295,19 +231,15 @@ pub fn noted(x: Staying, i: usize, e: Entry, going: Going) -> Staying
       lent = x.lent;
     } }
 {
-    if stays(e, going) {
-        return Staying {
-            flags: x.flags + x.next,
-            next: 2 * x.next,
-            count: x.count + 1,
-            lent: x.lent,
-        };
+    let next = 2 * x.next;
+    if !stays(e, going) {
+        return Staying { next, ..x };
     }
     Staying {
-        flags: x.flags,
-        next: 2 * x.next,
-        count: x.count,
-        lent: x.lent,
+        flags: x.flags + x.next,
+        next,
+        count: x.count + 1,
+        ..x
     }
 }
 
@@ -324,8 +256,5 @@ pub fn next_place(x: Staying, i: usize, j: usize) -> usize
     requires { (i < 16) × (j < 16) }
     ensures { result ≡ cond (flag_at x i) (j + 1) j }
 {
-    if stays_at(x, i) {
-        return j + 1;
-    }
-    j
+    if stays_at(x, i) { j + 1 } else { j }
 }

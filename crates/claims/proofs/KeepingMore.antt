@@ -2,7 +2,7 @@
 -- that code makes. Assumes nothing.
 use Prim.Native.Nat.{ℕ, ◌≤◌}
 use mathlib.Core.Path.{◌≡◌, refl, ap, ◌∙◌, subst}
-use Rattle.model.specs.Answers.{TableSaid}
+use Rattle.model.specs.declared.TableSaid.{TableSaid}
 use Rattle.model.specs.Memory.{State}
 use Rattle.model.specs.Outset.{outset_for}
 use Rattle.model.specs.Queries.{answered_time, Written, table_of, Viewed, view_of}

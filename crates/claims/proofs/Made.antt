@@ -5,7 +5,8 @@ use mathlib.Core.Path.{◌≡◌, refl, sym, ap, ◌∙◌, subst}
 use mathlib.Core.List.{List}
 use lib.IntN.{ℤ}
 use Rattle.model.specs.declared.Position.{Position}
-use Rattle.model.specs.Answers.{Outcome, TableSaid}
+use Rattle.model.specs.declared.TableSaid.{TableSaid}
+use Rattle.model.specs.Answers.{Outcome}
 use Rattle.model.specs.Memory.{State}
 use Rattle.model.specs.Starts.{Result, After, after}
 use Rattle.model.specs.Queries.{Written, Viewed, Netted, table_of}

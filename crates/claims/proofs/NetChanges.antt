@@ -9,7 +9,8 @@ use lib.ListN.{length, drop}
 use lib.Seq.{take_at}
 use borrow.Author.Tests.{le-leb}
 use Rattle.codec.specs.Parts.{zeros}
-use Rattle.model.specs.Answers.{answers, first_no, TableSaid}
+use Rattle.model.specs.declared.TableSaid.{TableSaid}
+use Rattle.model.specs.Answers.{answers, first_no}
 use Rattle.model.specs.Memory.{State, log_of}
 use Rattle.model.specs.NetChange.{net_change, changes_bytes, net_change_bytes}
 use Rattle.model.specs.Queries.{answered_time, table_said, table_of, rows_at, net_questions, net_of}

@@ -1,7 +1,6 @@
 pub mod Numbers
 pub mod PartLaws
 pub mod Moves
-pub mod Fills
 pub mod Sameness
 pub mod StretchLaws
 pub mod Searches

@@ -1,50 +1,22 @@
--- Laws of `number`, `bytes` and `AreBytes`, over the width: where a number's bytes stand, halves, written and
+-- Laws of `number`, `bytes` and `AreBytes`, over the width: where a number's bytes stand, a byte more, written and
 -- read back, and which lists are lists of bytes. Assumes nothing.
 use Prim.Native.Nat.{ℕ, zero, suc, ◌+◌, ◌*◌, ◌/◌, ◌%◌, ◌^◌, ◌≤◌, ◌<◌}
 use mathlib.Core.Path.{◌≡◌, refl, sym, ap, ◌∙◌}
 use mathlib.Core.List.{List, [], ◌∷◌, ◌++◌}
 use native.Mathlib.Omega.{arith}
-use native.Mathlib.Nat.{zero-add, add-zero, suc-add, add-suc, add_assoc, one-mul, mul-add, mul_assoc, pow-succ', div-add-mod, mod-lt, pow-le-pow_right, add_comm}
-use lib.ListN.{length, take, drop, get_or}
+use native.Mathlib.Nat.{add-zero, add-suc, pow-succ', pow-le-pow_right}
+use lib.ListN.{length, take, drop, get_or, set}
 use lib.Seq.{drop-cons, get_or-take, get_or-drop, get_or-append-add}
 use Rattle.codec.specs.LittleEndian.{number, bytes, AreBytes}
 use Rattle.codec.specs.Parts.{part, put, zeros}
-use Rattle.codec.proofs.PartLaws.{part-put_within, part-put-before, part-put-after, put-append}
-
--- ---- halves
-
--- j + k bytes are j bytes and then k bytes
-pub number_add : (j k : ℕ) (xs : List ℕ) (at : ℕ) → number (j + k) xs at ≡ number j xs at + 256 ^ j * number k xs (at + j)
-unfolding number
-number_add zero k xs at = simp (zero-add, add-zero, one-mul)
-number_add (suc j) k xs at =
-    rw (suc-add, number_add j k xs (suc at), mul-add, pow-succ', suc-add, add-suc, mul_assoc, add_assoc)
-
-pub bytes_add : (j k low high : ℕ) → low < 256 ^ j → bytes (j + k) (low + 256 ^ j * high) ≡ bytes j low ++ bytes k high
-unfolding bytes
-bytes_add zero k low high h =
-    let e : low + 1 * high ≡ high = omega arith in
-    rw (zero-add, e)
-bytes_add (suc j) k low high h =
-    let g : low < 256 * 256 ^ j = rw pow-succ' at h in
-    let p = 256 ^ j * high in
-    let s : 256 ^ suc j * high ≡ 256 * p = rw pow-succ' (mul_assoc 256 (256 ^ j) high) in
-    let m : (low + 256 * p) % 256 ≡ low % 256 = omega arith in
-    let d : (low + 256 * p) / 256 ≡ low / 256 + p = omega arith in
-    rw (suc-add, s, m, d, bytes_add j k (low / 256) high (omega arith))
-
--- the bytes of a number: those of its low half, then those of its high half
-pub bytes_halves : (j k n : ℕ) → bytes (j + k) n ≡ bytes j (n % 256 ^ j) ++ bytes k (n / 256 ^ j)
-bytes_halves j k n =
-    let e : n ≡ n % 256 ^ j + 256 ^ j * (n / 256 ^ j) = sym (div-add-mod n (256 ^ j)) ∙ add_comm _ _ in
-    ap (bytes (j + k)) e ∙ bytes_add j k (n % 256 ^ j) (n / 256 ^ j) (mod-lt n (pow-le-pow_right {n = 256} (omega arith) {i = 0} {j = j} (omega arith)))
+use Rattle.codec.proofs.PartLaws.{part-put_within, part-put-before, part-put-after, put_cons}
 
 -- ---- where a number's bytes stand
 
--- one byte is its number
-pub number_one : (xs : List ℕ) (at : ℕ) → number 1 xs at ≡ get_or xs at 0
+-- a number with the byte before it
+pub number_back : (w i j n : ℕ) (xs : List ℕ) → i ≡ suc j → n ≡ suc w → 256 * number w xs i + get_or xs j 0 ≡ number n xs j
 unfolding number
-number_one xs at = omega arith
+number_back w i j n xs e m = rw (e, m) (omega arith)
 
 pub number-drop : (w j : ℕ) (xs : List ℕ) (at : ℕ) → number w (drop j xs) at ≡ number w xs (j + at)
 unfolding number
@@ -77,12 +49,6 @@ unfolding bytes
 length-bytes zero n = refl
 length-bytes (suc w) n = ap suc (length-bytes w (n / 256))
 
--- 0 is written as zeros
-pub bytes_zero : (w : ℕ) → bytes w 0 ≡ zeros w
-unfolding bytes
-bytes_zero zero = refl
-bytes_zero (suc w) = ap (λ (l : List ℕ). 0 ∷ l) (bytes_zero w)
-
 pub number-bytes : (w n : ℕ) (rest : List ℕ) → n < 256 ^ w → number w (bytes w n ++ rest) 0 ≡ n
 unfolding number bytes
 number-bytes zero n rest h = omega arith
@@ -92,15 +58,10 @@ number-bytes (suc w) n rest h =
     let tail : number w (n % 256 ∷ (bytes w (n / 256) ++ rest)) 1 ≡ n / 256 = number-append_right w (n % 256 ∷ []) (bytes w (n / 256) ++ rest) 0 ∙ ih in
     rw tail (omega arith)
 
--- a number written as two halves, one right behind the other
-pub put_halves : (j k n : ℕ) (xs : List ℕ) (at : ℕ) → at ≤ length xs
-    → put (put xs at (bytes j (n % 256 ^ j))) (at + j) (bytes k (n / 256 ^ j)) ≡ put xs at (bytes (j + k) n)
-put_halves j k n xs at h =
-    let low = bytes j (n % 256 ^ j) in
-    let high = bytes k (n / 256 ^ j) in
-    ap (λ (m : ℕ). put (put xs at low) (at + m) high) (sym (length-bytes j (n % 256 ^ j)))
-    ∙ put-append xs at low high h
-    ∙ ap (put xs at) (sym (bytes_halves j k n))
+-- a number written from its lowest byte on
+pub put_byte : (n m x : ℕ) (xs : List ℕ) (at to : ℕ) → n ≡ suc m → to ≡ at + 1 → at < length xs → put (set xs at (x % 256)) to (bytes m (x / 256)) ≡ put xs at (bytes n x)
+unfolding bytes
+put_byte n m x xs at to e f h = rw (e, f) (put_cons xs at (x % 256) (bytes m (x / 256)) h)
 
 -- a number inside what was written, before it and after it
 pub number-put_within : (w i : ℕ) (xs : List ℕ) (at : ℕ) (vs : List ℕ) → at ≤ length xs → i + w ≤ length vs → number w (put xs at vs) (at + i) ≡ number w vs i
@@ -131,10 +92,12 @@ number_lt (suc w) xs at h =
     let ih : number w xs (suc at) < 256 ^ w = number_lt w xs (suc at) h in
     rw pow-succ' (omega arith)
 
--- equal numbers have equal bytes
-pub part_of_number : (w : ℕ) (xs ys : List ℕ) (at : ℕ) → AreBytes xs → AreBytes ys → at + w ≤ length xs → at + w ≤ length ys
-    → number w xs at ≡ number w ys at → part at w xs ≡ part at w ys
-part_of_number w xs ys at hx hy lx ly e = sym (bytes-number w xs at hx lx) ∙ ap (bytes w) e ∙ bytes-number w ys at hy ly
+-- a number of fewer bytes than v
+pub number_less : (w v : ℕ) (xs : List ℕ) (at : ℕ) → w ≤ v → AreBytes xs → number w xs at < 256 ^ v
+number_less w v xs at h k =
+    let n : number w xs at < 256 ^ w = number_lt w xs at k in
+    let p : 256 ^ w ≤ 256 ^ v = pow-le-pow_right {n = 256} (omega arith) {i = w} {j = v} h in
+    omega arith
 
 -- ---- lists of bytes
 

@@ -6,8 +6,8 @@ use mathlib.Core.List.{List, [], ◌∷◌, ◌++◌, append_assoc, append-nil}
 use native.Mathlib.Omega.{arith}
 use native.Mathlib.Numerals.{add-one}
 use native.Mathlib.Nat.{zero-add, add-zero, suc-add, add_assoc}
-use lib.ListN.{length, take, drop, get_or, set, replicate, length-append, length-drop, length-replicate, replicate-append-replicate, take-append-drop}
-use lib.Seq.{length-take-le, get_or-take, get_or-drop, take-nil, take-append-le, drop-append-le, take-take, drop-drop, take-add, take_at, drop_at, set_split, drop-length, sets, sets-eq}
+use lib.ListN.{length, take, drop, get_or, set, replicate, length-append, length-drop, length-replicate, take-append-drop}
+use lib.Seq.{length-take-le, get_or-take, get_or-drop, take-nil, take-append-le, drop-append-le, take-take, drop-drop, take-add, take_at, drop_at, set_split, drop-length}
 use borrow.Rule.Slice.PartMut.{put_mid}
 use Rattle.codec.specs.Parts.{zeros, part, put}
 
@@ -28,10 +28,6 @@ module _ {A : Type 0} where
   part-part i j at k xs h =
       part_is_slice i j (take k (drop at xs))
       ∙ rw (take-take (i + j) k (drop at xs) h, ← part_is_slice i j (drop at xs), drop-drop)
-
-  -- fronts that agree, and what stands behind them
-  pub take_more : (n k : ℕ) (xs ys : List A) → take n xs ≡ take n ys → part n k xs ≡ part n k ys → take (n + k) xs ≡ take (n + k) ys
-  take_more n k xs ys e f = take-add n k xs ∙ rw (e, f) (sym (take-add n k ys))
 
   pub part_of_take : (at k n : ℕ) (xs ys : List A) → at + k ≤ n → take n xs ≡ take n ys → part at k xs ≡ part at k ys
   part_of_take at k n xs ys h e =
@@ -122,10 +118,6 @@ module _ {A : Type 0} where
   pub put_one : (xs : List A) (at : ℕ) (v : A) → at < length xs → put xs at (v ∷ []) ≡ set xs at v
   put_one xs at v h = rw add-one (sym (set_split xs at v h))
 
-  -- stores in a row, as straight-line code makes them
-  pub put_sets : (xs : List A) (at : ℕ) (vs : List A) → at + length vs ≤ length xs → sets xs at vs ≡ put xs at vs
-  put_sets xs at vs h = sets-eq vs xs at h ∙ append_assoc (take at xs) vs (drop (at + length vs) xs)
-
   -- a second write right behind the first
   pub put-append : (xs : List A) (at : ℕ) (us vs : List A) → at ≤ length xs → put (put xs at us) (at + length us) vs ≡ put xs at (us ++ vs)
   put-append xs at us vs h =
@@ -136,6 +128,10 @@ module _ {A : Type 0} where
         add_assoc at (length us) (length vs),
       )
       (simp append_assoc)
+
+  -- one store, and a write right behind it
+  pub put_cons : (xs : List A) (at : ℕ) (v : A) (vs : List A) → at < length xs → put (set xs at v) (at + 1) vs ≡ put xs at (v ∷ vs)
+  put_cons xs at v vs h = rw (← put_one xs at v h) (put-append xs at (v ∷ []) vs (omega arith))
 
   -- ---- a part that was lent, `&mut xs[a..a + k]`, and came back
 
@@ -152,19 +148,6 @@ module _ {A : Type 0} where
       rw (add_assoc, ← drop-drop n a xs)
       (ap (drop n) (sym (take-append-drop k d)) ∙ drop-append-le n (take k d) (drop k d) (rw (length_part a k xs h) g)) in
       rw (e, take-take b k d (omega arith), take-add a b xs, tail) (simp append_assoc)
-
-  -- a part that runs to the end, `&mut xs[a..]`, of which the callee wrote the front
-  pub put_front : (a : ℕ) (xs zs : List A) {ys : List A} → a + length zs ≤ length xs → ys ≡ put (part a (length xs - a) xs) 0 zs
-      → put_mid a (length xs - a) xs ys ≡ put xs a zs
-  put_front a xs zs {ys} h e =
-      put_within a (length xs - a) xs 0 zs (omega arith) (omega arith) e ∙ ap (λ (n : ℕ). put xs n zs) (add-zero a)
-
--- zeros, and zeros right behind them
-pub put-zeros_more : (xs : List ℕ) (at j k : ℕ) → at ≤ length xs → put (put xs at (zeros j)) (at + j) (zeros k) ≡ put xs at (zeros (j + k))
-put-zeros_more xs at j k h =
-    ap (λ (n : ℕ). put (put xs at (zeros j)) (at + n) (zeros k)) (sym (length-replicate j 0))
-    ∙ put-append xs at (zeros j) (zeros k) h
-    ∙ ap (put xs at) (replicate-append-replicate j k 0)
 
 -- a part that was lent, `&mut xs[a..e]`, and came back filled with zeros
 pub put-zeros : (a e : ℕ) (xs : List ℕ) {ys : List ℕ} → a ≤ e → e ≤ length xs → ys ≡ zeros (length (part a (e - a) xs)) → put_mid a (e - a) xs ys ≡ put xs a (zeros (e - a))

@@ -2,13 +2,14 @@
 -- Assumes nothing.
 use Prim.Native.Nat.{ℕ, suc, ◌*◌, ◌-◌, ◌≤◌, ◌<◌}
 use mathlib.Core.Path.{◌≡◌, refl, sym, ap, ◌∙◌}
+use mathlib.Core.Logic.{◌⊎◌, inl, inr}
 use mathlib.Core.List.{List, ◌++◌}
-use mathlib.Core.Bool.{true, false}
-use lib.ListN.{length}
+use mathlib.Core.Bool.{Bool, true, false, ◌&&◌}
+use lib.ListN.{length, drop}
+use lib.Dec.{leb}
 use borrow.Author.Tests.{le-leb, lt-leb}
-use borrow.Rule.Slice.PartMut.{put_mid}
 use Rattle.codec.specs.LittleEndian.{AreBytes}
-use Rattle.codec.specs.Parts.{put, part, zeros}
+use Rattle.codec.specs.Parts.{part, zeros}
 use Rattle.model.specs.Answers.{refuses, answers, first_no}
 use Rattle.model.specs.Memory.{State, log_of, sound}
 use Rattle.model.specs.Rows.{rows_bytes, table_bytes}
@@ -47,23 +48,23 @@ module _ (st : State) (a b : ℕ) (out work : List ℕ) where
   unfolding first_no
   net_header q = net-refused 0 (rw q)
 
-  pub net_output_short : sound st ≡ true → length out < 24 * st.numbers.limit → NetChangePromise st a b out work (refuses 13) out work
+  -- output or workspace
+  pub net_short : sound st ≡ true → (length out < 24 * st.numbers.limit) ⊎ (length work < 16 * st.numbers.limit) → NetChangePromise st a b out work (refuses 13) out work
   unfolding first_no
-  net_output_short q l = net-refused 12 (rw (q, lt-leb _ _ l))
-
-  pub net_workspace_short : sound st ≡ true → 24 * st.numbers.limit ≤ length out → length work < 16 * st.numbers.limit
-      → NetChangePromise st a b out work (refuses 13) out work
-  unfolding first_no
-  net_workspace_short q l m = net-refused 12 (rw (q, le-leb _ _ l, lt-leb _ _ m))
+  net_short q (inl short) = net-refused 12 (rw (q, lt-leb _ _ short))
+  net_short q (inr short) = net-refused 12 (rw (q, lt-leb _ _ short, neither (leb (24 * st.numbers.limit) (length out))))
+    where
+      neither : (enough : Bool) → (enough && false) ≡ false
+      neither true = refl
+      neither false = refl
 
   -- ---- the answer
 
   module _ (first second : Candidates) (n : Both) (k from to : ℕ) (ws ys : List ℕ) (first-time : from ≡ answered_time st.numbers.last a) (second-time : to ≡ answered_time st.numbers.last b)
       (lw : length ws ≡ 16 * st.numbers.limit) (ly : length ys ≡ 24 * st.numbers.limit)
-      (known : AreBytes st.memory.log) (has_first : first ≡ candidates_in st.numbers a st.memory.catalogue) (has-second : second ≡ candidates_in st.numbers b st.memory.catalogue)
+      (known : AreBytes (drop 24 st.memory.log)) (has_first : first ≡ candidates_in st.numbers a st.memory.catalogue) (has-second : second ≡ candidates_in st.numbers b st.memory.catalogue)
       (both : BothWorkedOut st.numbers st.memory.log st.memory.index st.memory.table st.memory.areas first second from to n ws)
-      (merged : Merges (part 0 (8 * n.first) (put_mid 0 (16 * st.numbers.limit - 0) work ws))
-      (part (8 * st.numbers.limit) (8 * n.second) (put_mid 0 (16 * st.numbers.limit - 0) work ws)) k ys) where
+      (merged : Merges (part 0 (8 * n.first) (ws ++ drop (16 * st.numbers.limit) work)) (part (8 * st.numbers.limit) (8 * n.second) (ws ++ drop (16 * st.numbers.limit) work)) k ys) where
     -- on audited memory the workspace is the two tables
     worked : Audited st → (n ≡ record { first = length (rows_at st from); second = length (rows_at st to) })
         × (ws ≡ table_bytes st.numbers.limit (rows_at st from) ++ table_bytes st.numbers.limit (rows_at st to))
@@ -78,14 +79,13 @@ module _ (st : State) (a b : ℕ) (out work : List ℕ) where
         let B = rows_at st to in
         let few : length A ≤ R = timeslice_rows R (log_of st) (audited_facts st ok).log_legal from in
         let is = worked ok in
-        let e = front_back (16 * R) work ws lw in
-        let before : part 0 (8 * n.first) (put work 0 ws) ≡ rows_bytes A = rw (is.0, is.1) (first_rows R A B _) in
-        let after : part (8 * R) (8 * n.second) (put work 0 ws) ≡ rows_bytes B = rw (is.0, is.1) (second_rows R A B _ few) in
-        let m = (rw e at merged).on A B (rows_of_time st from known before) (rows_of_time st to known after) in
+        let before : part 0 (8 * n.first) (ws ++ drop (16 * R) work) ≡ rows_bytes A = rw (is.0, is.1) (first_rows R A B _) in
+        let after : part (8 * R) (8 * n.second) (ws ++ drop (16 * R) work) ≡ rows_bytes B = rw (is.0, is.1) (second_rows R A B _ few) in
+        let m = merged.on A B (rows_of_time st from known before) (rows_of_time st to known after) in
         (m.0, m.1 ∙ ap (λ (l : ℕ). changes_bytes (net_change A B) ++ zeros (l - 12 * length (net_change A B))) ly)
 
     pub net_answers : sound st ≡ true → 24 * st.numbers.limit ≤ length out → 16 * st.numbers.limit ≤ length work → k ≤ 2 * st.numbers.limit
-        → NetChangePromise st a b out work (answers k) (put_mid 0 (24 * st.numbers.limit - 0) out ys) (put_mid 0 (16 * st.numbers.limit - 0) work ws)
+        → NetChangePromise st a b out work (answers k) (ys ++ drop (24 * st.numbers.limit) out) (ws ++ drop (16 * st.numbers.limit) work)
     unfolding net_of first_no is_refused IfAnswered
     net_answers q l m few =
         record {

@@ -6,6 +6,8 @@ use Rattle.model.specs.Rows.{table_bytes}
 use Rattle.model.specs.Queries.{rows_at}
 use Rattle.model.specs.Audit.{Audited}
 use Rattle.model.specs.Promises.{store_of}
+use Rattle.pages.specs.declared.lent.Lent.{Lent}
+use Rattle.pages.specs.Lent.{stretch_lent}
 use Rattle.catalogue.specs.declared.Candidates.{Candidates}
 use Rattle.catalogue.specs.Candidates.{candidates_in}
 use Rattle.tables.specs.Ways.{Ready}
@@ -30,3 +32,11 @@ pub record Comparable (R : ℕ) (n : Both) (work out : ℕ) : Type 0 where
   pub second_few : n.second ≤ R
   pub work_long : 16 * R ≤ work
   pub out_is : out ≡ 24 * R
+
+-- ---- of what a store lends
+
+abbrev pub BothReadyLent : Lent → (a b work : ℕ) → Type 0
+BothReadyLent l = BothReady l.numbers (length l.log.now) l.extents.words
+
+abbrev pub BothWorkedLent : Lent → List ℕ → (first second : Candidates) → (a b : ℕ) → Both → List ℕ → Type 0
+BothWorkedLent l = BothWorkedOut l.numbers l.log.now (stretch_lent l) l.current.now

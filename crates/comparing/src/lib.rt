@@ -2,18 +2,20 @@
 // out into the workspace and then merged.
 #![tactic(auto)]
 
-ghost use Rattle.std.specs.Prelude.{◌≡◌, List, ◌*◌, ◌≤◌, length};
+ghost use Rattle.std.specs.Prelude.{◌≡◌, List, ◌*◌, ◌≤◌, length, drop};
+ghost use Rattle.codec.specs.LittleEndian.{AreBytes};
 ghost use Rattle.codec.specs.Parts.{part};
 ghost use Rattle.model.specs.declared.Entry.{Entry};
-ghost use Rattle.model.specs.Answers.{net_change_outcome};
-ghost use Rattle.model.specs.Promises.{store_of, NetChangePromise};
-ghost use Rattle.tree.specs.Places.{Seen, stretch_of};
+ghost use Rattle.model.specs.Answers.{outcome_of};
+ghost use Rattle.model.specs.Promises.{NetChangePromise};
+ghost use Rattle.pages.specs.Lent.{store_lent};
 ghost use Rattle.catalogue.specs.Candidates.{candidates_in};
 ghost use Rattle.netting.specs.Merge.{Merges};
-ghost use Rattle.comparing.specs.Both.{BothReady, BothWorkedOut, Comparable};
+ghost use Rattle.comparing.specs.Both.{BothReadyLent, BothWorkedLent, Comparable};
 
 use catalogue::Candidates;
-use model::{NetChangeAnswer, Numbers, Refusal};
+use model::Refusal;
+use pages::Lent;
 
 // The numbers of rows of two tables.
 #[derive(Clone, Copy)]
@@ -23,53 +25,23 @@ pub struct Both {
 }
 
 // Table a and then table b into the workspace, which is as long as they are.
-fn work_out_both<'a>(
-    s: Numbers,
-    log: &[u8],
-    index: &[u64],
-    extent: u32,
-    starts: &[u64],
-    words: usize,
-    current: &'a [u8],
-    areas: &'a [u8],
+fn work_out_both(
+    l: Lent,
+    areas: &[u8],
     first: Candidates,
     second: Candidates,
     a: u64,
     b: u64,
     work: &mut [u8],
 ) -> Both
-    requires both_ready { BothReady s (length log.now) words a b (length work.old) }
-    requires seen { Seen s.order extent starts.now words (length index.now) }
-    ensures within { (result.first ≤ s.limit) × (result.second ≤ s.limit) }
-    ensures worked { BothWorkedOut s log.now (stretch_of s.order extent starts.now words index.now) current.now areas.now first second a b result work.new }
+    requires { BothReadyLent l a b (length work.old) }
+    ensures within { (result.first ≤ l.entry.numbers.limit) × (result.second ≤ l.entry.numbers.limit) }
+    ensures worked { BothWorkedLent l.entry areas.now first second a b result work.new }
+    ensures bytes { AreBytes (drop 24 l.entry.log.now) }
 {
-    let size = 8 * (s.limit as usize);
-    let before = tables::work_out(
-        s,
-        log,
-        index,
-        extent,
-        starts,
-        words,
-        current,
-        areas,
-        first,
-        a,
-        &mut work[0..size],
-    );
-    let after = tables::work_out(
-        s,
-        log,
-        index,
-        extent,
-        starts,
-        words,
-        current,
-        areas,
-        second,
-        b,
-        &mut work[size..2 * size],
-    );
+    let (one, other) = work.split_at_mut(8 * (l.numbers.limit as usize));
+    let before = tables::work_out(l, areas, first, a, one);
+    let after = tables::work_out(l, areas, second, b, other);
     Both {
         first: before.rows,
         second: after.rows,
@@ -84,62 +56,36 @@ fn merge_both(limit: u32, n: Both, work: &[u8], out: &mut [u8]) -> usize
     ensures merged { Merges (part 0 (8 * n.first) work.now) (part (8 * limit) (8 * n.second) work.now) result out.new }
 {
     let start = 8 * (limit as usize);
-    let first = &work[0..8 * (n.first as usize)];
+    let first = &work[..8 * (n.first as usize)];
     let second = &work[start..start + 8 * (n.second as usize)];
     netting::merge(first, second, out)
 }
 
 // The net change from a to b into the first 24 x R bytes of out; the first 16 x R bytes of the
 // workspace end holding table a and then table b.
-pub fn net_change<'a>(
-    s: Numbers,
-    log: &[u8],
-    index: &[u64],
-    extent: u32,
-    starts: &[u64],
-    words: usize,
-    current: &'a [u8],
+pub fn net_change(
+    l: Lent,
     first: Candidates,
     second: Candidates,
-    areas: &'a [u8],
+    areas: &[u8],
     a: u64,
     b: u64,
     out: &mut [u8],
     work: &mut [u8],
-) -> NetChangeAnswer
-    requires { Seen s.order extent starts.now words (length index.now) }
-    ensures { (catalogue : List Entry) → first ≡ candidates_in s a catalogue → second ≡ candidates_in s b catalogue
-        → NetChangePromise (store_of s log.now (stretch_of s.order extent starts.now words index.now) current.now catalogue areas.now) a b
-        out.old work.old (net_change_outcome result) out.new work.new }
+) -> Result<u32, Refusal>
+    ensures { (catalogue : List Entry) → first ≡ candidates_in l.entry.numbers a catalogue → second ≡ candidates_in l.entry.numbers b catalogue
+        → NetChangePromise (store_lent l.entry catalogue areas.now) a b out.old work.old (outcome_of result) out.new work.new }
 {
-    if limits::is_sound(s, log, words, current.len(), first.lent, areas.len()) {} else {
-        return NetChangeAnswer::Refused(Refusal::Header);
-    }
+    tables::ask_sound(l, first.lent, areas.len())?;
+    let s = l.numbers;
     let size = 24 * (s.limit as usize);
-    if out.len() < size {
-        return NetChangeAnswer::Refused(Refusal::OutputShort);
-    }
     let space = 16 * (s.limit as usize);
-    if work.len() < space {
-        return NetChangeAnswer::Refused(Refusal::OutputShort);
+    if out.len() < size || work.len() < space {
+        return Err(Refusal::OutputShort);
     }
     let from = catalogue::answered_time(s.last, a);
     let to = catalogue::answered_time(s.last, b);
-    let n = work_out_both(
-        s,
-        log,
-        index,
-        extent,
-        starts,
-        words,
-        current,
-        areas,
-        first,
-        second,
-        from,
-        to,
-        &mut work[0..space],
-    );
-    let k = merge_both(s.limit, n, work, &mut out[0..size]);
-    NetChangeAnswer::Entries(k as u32)
+    let n = work_out_both(l, areas, first, second, from, to, &mut work[..space]);
+    let k = merge_both(s.limit, n, work, &mut out[..size]);
+    Ok(k as u32)
 }

@@ -58,10 +58,9 @@ pub extern "C" fn yk_fresh(
         → ExactlyCrossed result (memory_of log.new index current.new entries.new areas.now)
         (fresh_of order page limit (memory_of log.old index current.old entries.old areas.now)) }
 {
-    let n = entries::count(entries);
-    let r = numbered::fresh(order, page, limit, log, current, n, areas.len());
+    let r = numbered::fresh(order, page, limit, log, current, entries.len(), areas.len());
     entries::clear(entries, 0, r.clears);
-    numbered::answer::begun_change(r)
+    r.change
 }
 
 #[unsafe(no_mangle)]
@@ -75,10 +74,9 @@ pub extern "C" fn yk_open(
     ensures { ExactlyCrossed result (as_left log.now index.new current.new entries.new areas.now)
         (open_of (memory_of log.now index.old current.old entries.old areas.now)) }
 {
-    let n = entries::count(entries);
-    let r = numbered::open(log, index, current, n, areas.len());
+    let r = numbered::open(log, index, current, entries.len(), areas.len());
     entries::clear(entries, 0, r.clears);
-    numbered::answer::begun_change(r)
+    r.change
 }
 
 #[unsafe(no_mangle)]
@@ -101,7 +99,7 @@ pub extern "C" fn yk_insert(
         log,
         index,
         current,
-        entries::count(entries),
+        entries.len(),
         areas.len(),
         t,
         article,
@@ -128,7 +126,7 @@ pub extern "C" fn yk_delete(
         log,
         index,
         current,
-        entries::count(entries),
+        entries.len(),
         areas.len(),
         t,
         article,
@@ -155,7 +153,7 @@ pub extern "C" fn yk_update(
         log,
         index,
         current,
-        entries::count(entries),
+        entries.len(),
         areas.len(),
         t,
         article,
@@ -175,18 +173,17 @@ pub extern "C" fn yk_position(
 ) -> YkPosition
     ensures { PositionCrossed result (as_lent s log.now index.now current.now entries.now areas.now) t }
 {
-    let n = entries::count(entries);
-    numbered::position(s, log, index, current, n, areas.len(), t)
+    numbered::position(s, log, index, current, entries.len(), areas.len(), t)
 }
 
 #[unsafe(no_mangle)]
-pub extern "C" fn yk_table<'a>(
+pub extern "C" fn yk_table(
     s: Numbers,
     log: &[u8],
     index: &[u64],
-    current: &'a [u8],
+    current: &[u8],
     entries: &[Entry],
-    areas: &'a [u8],
+    areas: &[u8],
     t: u64,
     out: &mut [u8],
 ) -> YkTable
@@ -229,13 +226,13 @@ pub extern "C" fn yk_view(
 }
 
 #[unsafe(no_mangle)]
-pub extern "C" fn yk_net_change<'a>(
+pub extern "C" fn yk_net_change(
     s: Numbers,
     log: &[u8],
     index: &[u64],
-    current: &'a [u8],
+    current: &[u8],
     entries: &[Entry],
-    areas: &'a [u8],
+    areas: &[u8],
     a: u64,
     b: u64,
     out: &mut [u8],
@@ -260,13 +257,13 @@ pub extern "C" fn yk_net_change<'a>(
 }
 
 #[unsafe(no_mangle)]
-pub extern "C" fn yk_units<'a>(
+pub extern "C" fn yk_units(
     s: Numbers,
     log: &[u8],
     index: &[u64],
-    current: &'a [u8],
+    current: &[u8],
     entries: &[Entry],
-    areas: &'a [u8],
+    areas: &[u8],
     t: u64,
 ) -> YkUnits
     ensures { UnitsCrossed result (as_lent s log.now index.now current.now entries.now areas.now) t }
@@ -283,13 +280,13 @@ pub extern "C" fn yk_units<'a>(
 }
 
 #[unsafe(no_mangle)]
-pub extern "C" fn yk_units_between<'a>(
+pub extern "C" fn yk_units_between(
     s: Numbers,
     log: &[u8],
     index: &[u64],
-    current: &'a [u8],
+    current: &[u8],
     entries: &[Entry],
-    areas: &'a [u8],
+    areas: &[u8],
     a: u64,
     b: u64,
 ) -> YkDifference
@@ -325,7 +322,7 @@ pub extern "C" fn yk_keep(
     let at = entries::place(entries, s, t);
     let r = numbered::keep(s, log, index, current, c, at, areas, t, mark);
     entries::insert(entries, r.at, r.end, r.entry);
-    numbered::answer::kept_change(r)
+    r.change
 }
 
 #[unsafe(no_mangle)]
@@ -343,7 +340,7 @@ pub extern "C" fn yk_drop(
     let x = entries::staying(entries, s, catalogue::of_time(t));
     let r = numbered::drop(s, log, index, current, x, areas, t);
     entries::remove(entries, r.over, x);
-    numbered::answer::dropped_change(r)
+    r.answer
 }
 
 #[unsafe(no_mangle)]
@@ -361,7 +358,7 @@ pub extern "C" fn yk_drop_marked(
     let x = entries::staying(entries, s, catalogue::of_mark(mark));
     let r = numbered::drop_marked(s, log, index, current, x, areas, mark);
     entries::remove(entries, r.over, x);
-    numbered::answer::cleared_answer(r)
+    r.answer
 }
 
 #[unsafe(no_mangle)]

@@ -1,5 +1,6 @@
 -- Each exported call, as its contract says, is a call that keeps its promise (`Carried`, model/specs/Chains), with what is read in
 -- its answer: one law for each. So an accepted start and a list of them are `RanFrom`. Assumes nothing.
+use Rattle.std.specs.Prelude.{Ok, Err}
 use Prim.Native.Nat.{ℕ, zero, suc}
 use mathlib.Core.Path.{◌≡◌, refl, sym, ap, ◌∙◌}
 use mathlib.Core.List.{List}
@@ -7,26 +8,14 @@ use mathlib.Core.Bool.{Bool, true, false}
 use lib.IntN.{ℤ}
 use lib.ListN.{length}
 use Rattle.model.specs.declared.Numbers.{Numbers}
-use Rattle.model.specs.declared.Verdict.{Verdict}
-use Rattle.model.specs.declared.Verdict.TheVariants as verdict
 use Rattle.model.specs.declared.Position.{Position}
-use Rattle.model.specs.declared.PositionAnswer.{PositionAnswer}
-use Rattle.model.specs.declared.PositionAnswer.TheVariants as position
+use Rattle.model.specs.declared.Side.{Side}
 use Rattle.model.specs.declared.Side.TheVariants.{Earlier, Later}
+use Rattle.model.specs.declared.Place.{Place}
 use Rattle.model.specs.declared.Place.TheVariants.{Empty, Area, Current}
-use Rattle.model.specs.declared.TableAnswer.{TableAnswer}
-use Rattle.model.specs.declared.TableAnswer.TheVariants as table
-use Rattle.model.specs.declared.ViewAnswer.{ViewAnswer}
-use Rattle.model.specs.declared.ViewAnswer.TheVariants as view
-use Rattle.model.specs.declared.NetChangeAnswer.{NetChangeAnswer}
-use Rattle.model.specs.declared.NetChangeAnswer.TheVariants as net
-use Rattle.model.specs.declared.UnitsAnswer.{UnitsAnswer}
-use Rattle.model.specs.declared.UnitsAnswer.TheVariants as units
-use Rattle.model.specs.declared.DifferenceAnswer.{DifferenceAnswer}
-use Rattle.model.specs.declared.DifferenceAnswer.TheVariants as difference
-use Rattle.model.specs.declared.DropMarkedAnswer.{DropMarkedAnswer}
-use Rattle.model.specs.declared.DropMarkedAnswer.TheVariants as marked
-use Rattle.model.specs.Answers.{Outcome, answers, Question, asks, first_no, unless_no, verdict_outcome, position_outcome, table_outcome, view_outcome, net_change_outcome, units_outcome, difference_outcome, drop_marked_outcome, TableSaid, OutsetSaid}
+use Rattle.model.specs.declared.TableSaid.{TableSaid}
+use Rattle.model.specs.declared.OutsetSaid.{OutsetSaid}
+use Rattle.model.specs.Answers.{Outcome, answers, Question, asks, first_no, unless_no, outcome_of, Answer}
 use Rattle.model.specs.Memory.{Memory, State, state, standing}
 use Rattle.model.specs.Starts.{Result, after}
 use Rattle.model.specs.Changes.{unchanged}
@@ -46,57 +35,62 @@ use Rattle.exported.proofs.Refusals.{whole-read, first_read}
 
 -- ---- what is read in each answer
 
-change_read_lem : (s : Numbers) (v : Verdict) → (change_read (change_out s v) ≡ verdict_outcome v) × ((change_out s v).numbers ≡ s)
-unfolding change_read change_out verdict_outcome read
-change_read_lem s verdict.Accepted = (refl, refl)
-change_read_lem s (verdict.Refused why) = (whole-read why, refl)
+change_read_lem : (s : Numbers) (v : Answer Unit) → (change_read (change_out s v) ≡ outcome_of v) × ((change_out s v).numbers ≡ s)
+unfolding change_read change_out read
+change_read_lem s (Ok u) = (refl, refl)
+change_read_lem s (Err why) = (whole-read why, refl)
 
-position-read : (qs : List Question) (x : PositionAnswer) → asks 17 qs ≡ false → FirstNoRefuses qs (position_outcome x) → position_read (position_out x) ≡ position_outcome x
-unfolding position_out position_outcome read
-position-read qs (position.At p) e h = refl
-position-read qs (position.Refused why) e h = first_read Position _ qs why e h
+position-read : (qs : List Question) (x : Answer Position) → asks 17 qs ≡ false → FirstNoRefuses qs (outcome_of x) → position_read (position_out x) ≡ outcome_of x
+unfolding position_out read
+position-read qs (Ok p) e h = refl
+position-read qs (Err why) e h = first_read Position _ qs why e h
 
-table-read : (qs : List Question) (x : TableAnswer) → asks 17 qs ≡ false → FirstNoRefuses qs (table_outcome x) → table_read (table_out x) ≡ table_outcome x
-unfolding table_out table_outcome read later_of side_read
-table-read qs (table.Table rows Earlier between) e h = refl
-table-read qs (table.Table rows Later between) e h = refl
-table-read qs (table.Refused why) e h = first_read TableSaid _ qs why e h
+-- a side and a place, told in numbers and read again
+told_side : (side : Side) → side_read (later_of side) ≡ side
+unfolding later_of side_read
+told_side Earlier = refl
+told_side Later = refl
 
-module _ (R areas current : ℕ) where
-  view-read : (qs : List Question) (x : ViewAnswer) → asks 17 qs ≡ false → FirstNoRefuses qs (view_outcome x) → view_read (view_out R areas current x) ≡ view_outcome x
-  unfolding view_out view_outcome read later_of side_read place_out area_out place_read
-  view-read qs (view.Outset Empty rows Earlier between) e h = refl
-  view-read qs (view.Outset Empty rows Later between) e h = refl
-  view-read qs (view.Outset (Area i) rows Earlier between) e h = refl
-  view-read qs (view.Outset (Area i) rows Later between) e h = refl
-  view-read qs (view.Outset Current rows Earlier between) e h = refl
-  view-read qs (view.Outset Current rows Later between) e h = refl
-  view-read qs (view.Refused why) e h = first_read OutsetSaid _ qs why e h
+told_place : (place : Place) → place_read (place_out place) (area_out place) ≡ place
+unfolding place_out area_out place_read
+told_place Empty = refl
+told_place (Area i) = refl
+told_place Current = refl
 
-net_change_read_lem : (qs : List Question) (x : NetChangeAnswer) → asks 17 qs ≡ false → FirstNoRefuses qs (net_change_outcome x) → net_change_read (net_change_out x) ≡ net_change_outcome x
-unfolding net_change_out net_change_outcome read
-net_change_read_lem qs (net.Entries k) e h = refl
-net_change_read_lem qs (net.Refused why) e h = first_read ℕ _ qs why e h
+table-read : (qs : List Question) (x : Answer TableSaid) → asks 17 qs ≡ false → FirstNoRefuses qs (outcome_of x) → table_read (table_out x) ≡ outcome_of x
+unfolding table_out read
+table-read qs (Ok s) e h = rw (told_side s.side)
+table-read qs (Err why) e h = first_read TableSaid _ qs why e h
 
-units-read : (qs : List Question) (x : UnitsAnswer) → asks 17 qs ≡ false → FirstNoRefuses qs (units_outcome x) → units_read (units_out x) ≡ units_outcome x
-unfolding units_out units_outcome read
-units-read qs (units.Units k) e h = refl
-units-read qs (units.Refused why) e h = first_read ℕ _ qs why e h
+view-read : (R areas current : ℕ) (qs : List Question) (x : Answer OutsetSaid) → asks 17 qs ≡ false → FirstNoRefuses qs (outcome_of x) → view_read (view_out R areas current x) ≡ outcome_of x
+unfolding view_out read
+view-read R areas current qs (Ok s) e h = rw (told_side s.side, told_place s.place)
+view-read R areas current qs (Err why) e h = first_read OutsetSaid _ qs why e h
 
-difference-read : (qs : List Question) (x : DifferenceAnswer) → asks 17 qs ≡ false → FirstNoRefuses qs (difference_outcome x) → difference_read (difference_out x) ≡ difference_outcome x
-unfolding difference_out difference_outcome read
-difference-read qs (difference.Difference k) e h = refl
-difference-read qs (difference.Refused why) e h = first_read ℤ _ qs why e h
+net_change_read_lem : (qs : List Question) (x : Answer ℕ) → asks 17 qs ≡ false → FirstNoRefuses qs (outcome_of x) → net_change_read (net_change_out x) ≡ outcome_of x
+unfolding net_change_out read
+net_change_read_lem qs (Ok k) e h = refl
+net_change_read_lem qs (Err why) e h = first_read ℕ _ qs why e h
 
-drop-marked-read : (qs : List Question) (s : Numbers) (x : DropMarkedAnswer) → asks 17 qs ≡ false → FirstNoRefuses qs (drop_marked_outcome x) → drop_marked_read (drop_marked_out s x) ≡ drop_marked_outcome x
-unfolding drop_marked_out drop_marked_outcome read
-drop-marked-read qs s (marked.Gone k) e h = refl
-drop-marked-read qs s (marked.Refused why) e h = first_read ℕ _ qs why e h
+units-read : (qs : List Question) (x : Answer ℕ) → asks 17 qs ≡ false → FirstNoRefuses qs (outcome_of x) → units_read (units_out x) ≡ outcome_of x
+unfolding units_out read
+units-read qs (Ok k) e h = refl
+units-read qs (Err why) e h = first_read ℕ _ qs why e h
 
-drop-marked-numbers : (s : Numbers) (x : DropMarkedAnswer) → (drop_marked_out s x).numbers ≡ s
+difference-read : (qs : List Question) (x : Answer ℤ) → asks 17 qs ≡ false → FirstNoRefuses qs (outcome_of x) → difference_read (difference_out x) ≡ outcome_of x
+unfolding difference_out read
+difference-read qs (Ok k) e h = refl
+difference-read qs (Err why) e h = first_read ℤ _ qs why e h
+
+drop-marked-read : (qs : List Question) (s : Numbers) (x : Answer ℕ) → asks 17 qs ≡ false → FirstNoRefuses qs (outcome_of x) → drop_marked_read (drop_marked_out s x) ≡ outcome_of x
+unfolding drop_marked_out read
+drop-marked-read qs s (Ok k) e h = refl
+drop-marked-read qs s (Err why) e h = first_read ℕ _ qs why e h
+
+drop-marked-numbers : (s : Numbers) (x : Answer ℕ) → (drop_marked_out s x).numbers ≡ s
 unfolding drop_marked_out
-drop-marked-numbers s (marked.Gone k) = refl
-drop-marked-numbers s (marked.Refused why) = refl
+drop-marked-numbers s (Ok k) = refl
+drop-marked-numbers s (Err why) = refl
 
 audit_read_lem : (b : Bool) → audit_read (yes_out b) ≡ b
 audit_read_lem true = refl
@@ -141,7 +135,7 @@ exported_carried (Exported.keep t k p) = Carried.keep t k (change_kept _ p)
 exported_carried (Exported.drop t p) = Carried.drop t (change_kept _ p)
 exported_carried {st} (Exported.drop_marked k {r = r} {memory' = memory'} p) =
     let asked = marked_first st k _ _ p.kept in
-    let is : drop_marked_read r ≡ drop_marked_outcome p.answer = ap drop_marked_read p.is ∙ drop-marked-read (drop_marked_questions st k) p.numbers p.answer refl asked in
+    let is : drop_marked_read r ≡ outcome_of p.answer = ap drop_marked_read p.is ∙ drop-marked-read (drop_marked_questions st k) p.numbers p.answer refl asked in
     let numbers : r.numbers ≡ p.numbers = ap (λ (x : YkDropMarked). x.numbers) p.is ∙ drop-marked-numbers p.numbers p.answer in
     let defined : after (drop_marked_read r) (state r.numbers memory') ≡ drop_marked_of st k = rw (is, numbers) p.kept in
     Carried.drop_marked k defined

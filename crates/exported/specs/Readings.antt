@@ -5,7 +5,9 @@ use Rattle.model.specs.declared.Side.{Side}
 use Rattle.model.specs.declared.Side.TheVariants.{Earlier, Later}
 use Rattle.model.specs.declared.Place.{Place}
 use Rattle.model.specs.declared.Place.TheVariants.{Empty, Area, Current}
-use Rattle.model.specs.Answers.{Outcome, answers, refuses, refuses_at, TableSaid, OutsetSaid}
+use Rattle.model.specs.declared.TableSaid.{TableSaid}
+use Rattle.model.specs.declared.OutsetSaid.{OutsetSaid}
+use Rattle.model.specs.Answers.{Outcome, answers, refuses, refuses_at}
 use Rattle.numbered.specs.declared.answer.YkChange.{YkChange}
 use Rattle.numbered.specs.declared.answer.YkPosition.{YkPosition}
 use Rattle.numbered.specs.declared.answer.YkTable.{YkTable}

@@ -10,7 +10,9 @@ use lib.IntN.{ℤ}
 use lib.Dec.{leb}
 use borrow.Author.Tests.{le-leb, lt-ltb}
 use Rattle.model.specs.declared.Position.{Position}
-use Rattle.model.specs.Answers.{Outcome, answers, refuses, refuses_at, Question, first_no, TableSaid, OutsetSaid}
+use Rattle.model.specs.declared.TableSaid.{TableSaid}
+use Rattle.model.specs.declared.OutsetSaid.{OutsetSaid}
+use Rattle.model.specs.Answers.{Outcome, answers, refuses, refuses_at, Question, first_no}
 use Rattle.model.specs.Settings.{records_in_range}
 use Rattle.model.specs.Pages.{index_need}
 use Rattle.model.specs.Memory.{Memory, State, standing, capacity_of, log_long, index_long, table_long}

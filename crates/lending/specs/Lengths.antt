@@ -1,12 +1,10 @@
--- How much memory to lend for order d, page size N, row limit R, n records and f count files. `lengths_of` and `lengths_outcome`
--- are what the contract cites. Assumes nothing.
-use Rattle.std.specs.Prelude.{ℕ, ◌+◌, ◌*◌, List, [], ◌∷◌, ◌++◌, leb}
-use Rattle.model.specs.Answers.{Outcome, answers, refuses, refusal, Question, question, first_no, unless_no}
+-- How much memory to lend for order d, page size N, row limit R, n records and f count files. `lengths_of`
+-- is what the contract cites. Assumes nothing.
+use Rattle.std.specs.Prelude.{ℕ, ◌+◌, ◌*◌, List, [], ◌∷◌, ◌++◌, leb, Ok, Err}
+use Rattle.model.specs.Answers.{Outcome, answers, refuses, refusal, Question, question, first_no, unless_no, Answer, outcome_of}
 use Rattle.model.specs.Settings.{records_in_range, settings_questions}
 use Rattle.model.specs.Pages.{index_need}
 use Rattle.lending.specs.declared.Lengths.{Lengths}
-use Rattle.lending.specs.declared.LengthsAnswer.{LengthsAnswer}
-use Rattle.lending.specs.declared.LengthsAnswer.TheVariants as said
 
 -- 2, 3, 4, then 01's limits of records and of files, with the numbers of the questions that a call would refuse them by
 abbrev pub lengths_questions : (d N R n f : ℕ) → List Question
@@ -27,7 +25,3 @@ lengths_for d N R n f =
 
 unfoldable pub lengths_of : (d N R n f : ℕ) → Outcome Lengths
 lengths_of d N R n f = unless_no (first_no (lengths_questions d N R n f)) (answers (lengths_for d N R n f)) refuses
-
-unfoldable pub lengths_outcome : LengthsAnswer → Outcome Lengths
-lengths_outcome (said.Lend l) = answers l
-lengths_outcome (said.Refused why) = refusal why

@@ -4,9 +4,10 @@
 
 ghost use Rattle.std.specs.Prelude.{◌≡◌, ◌≤◌};
 ghost use Rattle.model.specs.Settings.{SettingsFit};
-ghost use Rattle.lending.specs.Lengths.{lengths_for, lengths_of, lengths_outcome};
+ghost use Rattle.model.specs.Answers.{outcome_of};
+ghost use Rattle.lending.specs.Lengths.{lengths_for, lengths_of};
 
-use model::{Checked, Numbers, Refusal, Settings};
+use model::{Numbers, Refusal, Settings};
 
 // Lengths in the unit of each region: bytes, but words of the index and entries of the catalogue.
 #[derive(Clone, Copy)]
@@ -19,12 +20,6 @@ pub struct Lengths {
     // of a net change; a table's output needs a third of it
     pub output: usize,
     pub workspace: usize,
-}
-
-#[derive(Clone, Copy)]
-pub enum LengthsAnswer {
-    Lend(Lengths),
-    Refused(Refusal),
 }
 
 // The lengths for numbers that are within their limits.
@@ -54,19 +49,21 @@ fn lengths_in_range(s: Settings, records: u32, files: u32) -> Lengths
 }
 
 // What to lend for a store of these settings that is to hold so many records and count files.
-pub fn lengths_for(order: u16, page: u16, limit: u32, records: u32, files: u32) -> LengthsAnswer
-    ensures { lengths_outcome result ≡ lengths_of order page limit records files }
+pub fn lengths_for(
+    order: u16,
+    page: u16,
+    limit: u32,
+    records: u32,
+    files: u32,
+) -> Result<Lengths, Refusal>
+    ensures { outcome_of result ≡ lengths_of order page limit records files }
 {
-    match Settings::checked(order, page, limit) {
-        Checked::InRange(s) => {
-            if Numbers::RECORDS_MAX < records {
-                return LengthsAnswer::Refused(Refusal::Memory);
-            }
-            if Numbers::FILES_MAX < files as usize {
-                return LengthsAnswer::Refused(Refusal::CatalogueFull);
-            }
-            LengthsAnswer::Lend(lengths_in_range(s, records, files))
-        }
-        Checked::Refused(why) => LengthsAnswer::Refused(why),
+    let s = Settings::checked(order, page, limit)?;
+    if Numbers::RECORDS_MAX < records {
+        return Err(Refusal::Memory);
     }
+    if Numbers::FILES_MAX < files as usize {
+        return Err(Refusal::CatalogueFull);
+    }
+    Ok(lengths_in_range(s, records, files))
 }

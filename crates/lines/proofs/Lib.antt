@@ -1,3 +1,3 @@
 pub mod Numerals
-pub mod Gatherings
 pub mod TextCases
+pub mod Lengths

@@ -19,3 +19,6 @@ few_digits n h = length-decimal-le 20 n (omega arith) (omega arith) h
 pub decimal_numeral : (n : ℕ) → n < 2 ^ 64 → decimal n ≡ numeral n
 unfolding numeral
 decimal_numeral n h = sym (decimal_from_appends last_digits last_digit_appended 20 n h (few_digits n h))
+
+pub numeral_short : (n : ℕ) → n < 2 ^ 64 → length (numeral n) ≤ 20
+numeral_short n h = rw (← decimal_numeral n h) (few_digits n h)

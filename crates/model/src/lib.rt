@@ -2,7 +2,7 @@
 #![tactic(auto)]
 
 ghost use Rattle.std.specs.Prelude.{◌≡◌};
-ghost use Rattle.model.specs.Answers.{checked_outcome};
+ghost use Rattle.model.specs.Answers.{outcome_of};
 ghost use Rattle.model.specs.Settings.{settings_of};
 
 // A page position: how many page times are at or before a time, less one (01, "Packed tree").
@@ -89,23 +89,11 @@ pub enum Refusal {
     WrongMark,
 }
 
-#[derive(Clone, Copy)]
-pub enum Checked {
-    InRange(Settings),
-    Refused(Refusal),
-}
-
 // What a call that may change the store answers: the numbers as they then are, and whether it was accepted.
 #[derive(Clone, Copy)]
 pub struct Changed {
     pub numbers: Numbers,
-    pub verdict: Verdict,
-}
-
-#[derive(Clone, Copy)]
-pub enum Verdict {
-    Accepted,
-    Refused(Refusal),
+    pub verdict: Result<(), Refusal>,
 }
 
 // The position of a time: its page, and how many requests, which are records, are at or before it.
@@ -115,12 +103,6 @@ pub struct Position {
     pub requests: u32,
 }
 
-#[derive(Clone, Copy)]
-pub enum PositionAnswer {
-    At(Position),
-    Refused(Refusal),
-}
-
 // The side of the wanted time on which the outset used lies.
 #[derive(Clone, Copy)]
 pub enum Side {
@@ -128,10 +110,12 @@ pub enum Side {
     Later,
 }
 
+// What a table call answers: its rows, the side of the outset used and the requests between, an update counting two.
 #[derive(Clone, Copy)]
-pub enum TableAnswer {
-    Table { rows: u32, side: Side, between: u32 },
-    Refused(Refusal),
+pub struct TableSaid {
+    pub rows: u32,
+    pub side: Side,
+    pub between: u32,
 }
 
 // Where an outset's rows lie: nowhere (the empty table of time 0), in an area, or in the current table.
@@ -158,42 +142,13 @@ pub struct Chosen {
     pub between: u32,
 }
 
+// What a view answers: where the rows of the outset used lie, and the same of it.
 #[derive(Clone, Copy)]
-pub enum ViewAnswer {
-    Outset {
-        place: Place,
-        rows: u32,
-        side: Side,
-        between: u32,
-    },
-    Refused(Refusal),
-}
-
-#[derive(Clone, Copy)]
-pub enum NetChangeAnswer {
-    Entries(u32),
-    Refused(Refusal),
-}
-
-// The units on hand at a time.
-#[derive(Clone, Copy)]
-pub enum UnitsAnswer {
-    Units(u64),
-    Refused(Refusal),
-}
-
-// The units on hand at a second time less those at a first.
-#[derive(Clone, Copy)]
-pub enum DifferenceAnswer {
-    Difference(i64),
-    Refused(Refusal),
-}
-
-// How many count files of a mark went.
-#[derive(Clone, Copy)]
-pub enum DropMarkedAnswer {
-    Gone(u32),
-    Refused(Refusal),
+pub struct OutsetSaid {
+    pub place: Place,
+    pub rows: u32,
+    pub side: Side,
+    pub between: u32,
 }
 
 impl Entry {
@@ -234,27 +189,19 @@ impl Settings {
     pub const LIMIT_MAX: u32 = 1024;
 
     // The settings, or the refusal of the first that is out of its range.
-    pub fn checked(order: u16, page: u16, limit: u32) -> Checked
-        ensures { checked_outcome result ≡ settings_of order page limit }
+    #[tactic(auto, unfolding(crate::specs::Answers::refusal, crate::specs::Answers::first_no, crate::specs::Settings::settings_of, crate::specs::Settings::order_in_range, crate::specs::Settings::page_size_in_range, crate::specs::Settings::row_limit_in_range))]
+    pub fn checked(order: u16, page: u16, limit: u32) -> Result<Settings, Refusal>
+        ensures { outcome_of result ≡ settings_of order page limit }
     {
-        if order < Self::ORDER_MIN {
-            return Checked::Refused(Refusal::Order);
+        if order < Self::ORDER_MIN || Self::ORDER_MAX < order {
+            return Err(Refusal::Order);
         }
-        if Self::ORDER_MAX < order {
-            return Checked::Refused(Refusal::Order);
+        if page < Self::PAGE_MIN || Self::PAGE_MAX < page {
+            return Err(Refusal::PageSize);
         }
-        if page < Self::PAGE_MIN {
-            return Checked::Refused(Refusal::PageSize);
+        if limit < Self::LIMIT_MIN || Self::LIMIT_MAX < limit {
+            return Err(Refusal::RowLimit);
         }
-        if Self::PAGE_MAX < page {
-            return Checked::Refused(Refusal::PageSize);
-        }
-        if limit < Self::LIMIT_MIN {
-            return Checked::Refused(Refusal::RowLimit);
-        }
-        if Self::LIMIT_MAX < limit {
-            return Checked::Refused(Refusal::RowLimit);
-        }
-        Checked::InRange(Settings { order, page, limit })
+        Ok(Settings { order, page, limit })
     }
 }

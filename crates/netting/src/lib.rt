@@ -46,7 +46,8 @@ fn put_row(out: &mut [u8], k: usize, kind: u16, rows: &[u8], i: usize)
 // ---- the merge, one step
 
 // The article of row i of m, or a number above every article where there are no more rows. (Article 0
-// with count 0 is a row, so no row's bytes can stand for none.)
+// with count 0 is a row, so no row's bytes can stand for none.) An `Option` is no plainer: four arms for
+// `pass` where one comparison serves.
 fn head(rows: &[u8], i: usize, m: usize) -> u64
     requires i_le_m { i ≤ m }
     requires m_in_bounds { 8 * m ≤ length rows.now }
@@ -58,79 +59,58 @@ fn head(rows: &[u8], i: usize, m: usize) -> u64
     codec::get32(rows, 8 * i) as u64
 }
 
-// Row i of a goes.
-fn gone(a: &[u8], i: usize, j: usize, out: &mut [u8], k: usize) -> Way
-    requires i_in_bounds { 8 * i + 8 ≤ length a.now }
-    requires k_in_bounds { 12 * k + 12 ≤ length out.old }
-    ensures way { result ≡ record { left = i + 1; right = j; entries = k + 1 } }
-    ensures entry { out.new ≡ put out.old (12 * k) (change_bytes (change_at 3 a.now i)) }
-{
-    put_row(out, k, 3, a, i);
-    Way {
-        left: i + 1,
-        right: j,
-        entries: k + 1,
-    }
-}
-
-// Row j of b comes.
-fn come(b: &[u8], i: usize, j: usize, out: &mut [u8], k: usize) -> Way
-    requires j_in_bounds { 8 * j + 8 ≤ length b.now }
-    requires k_in_bounds { 12 * k + 12 ≤ length out.old }
-    ensures way { result ≡ record { left = i; right = j + 1; entries = k + 1 } }
-    ensures entry { out.new ≡ put out.old (12 * k) (change_bytes (change_at 2 b.now j)) }
-{
-    put_row(out, k, 2, b, j);
-    Way {
-        left: i,
-        right: j + 1,
-        entries: k + 1,
-    }
-}
-
-// Row i of what was and row j of what is are of one article and have two counts: the deletion comes
-// first.
-fn recounted(was: &[u8], i: usize, is: &[u8], j: usize, out: &mut [u8], k: usize) -> Way
+// Entries k and k + 1 of out, for row i of what was and row j of what is, which are of one article and have two
+// counts: the deletion comes first.
+fn put_recounted(out: &mut [u8], k: usize, was: &[u8], i: usize, is: &[u8], j: usize)
     requires i_in_bounds { 8 * i + 8 ≤ length was.now }
     requires j_in_bounds { 8 * j + 8 ≤ length is.now }
     requires k_in_bounds { 12 * k + 24 ≤ length out.old }
-    ensures way { result ≡ record { left = i + 1; right = j + 1; entries = k + 2 } }
-    ensures entries { out.new ≡ put out.old (12 * k)
+    ensures { out.new ≡ put out.old (12 * k)
         (change_bytes (change_at 3 was.now i) ++ change_bytes (change_at 2 is.now j)) }
 {
     let next = k + 1;
     put_row(out, k, 3, was, i);
     put_row(out, next, 2, is, j);
-    Way {
-        left: i + 1,
-        right: j + 1,
-        entries: k + 2,
-    }
 }
 
-// The first rows not yet passed, row i of m and row j of n: that of the smaller article is passed,
-// or both where they have one article.
-fn pass(a: &[u8], i: usize, m: usize, b: &[u8], j: usize, n: usize, out: &mut [u8], k: usize) -> Way
-    requires { Underway (length a.now) i m (length b.now) j n (length out.old) k }
-    ensures within { (result.left ≤ m) × ((result.right ≤ n) × ((i + j < result.left + result.right) × (result.entries ≤ result.left + result.right))) }
-    ensures passes { Passes a.now b.now m n i j k out.old result.left result.right result.entries out.new }
+// The first rows not yet passed, of the m rows of a and the n rows of b: that of the smaller article is
+// passed, or both where they have one article. The row of a goes, that of b comes.
+fn pass(a: &[u8], m: usize, b: &[u8], n: usize, out: &mut [u8], at: Way) -> Way
+    requires { Underway (length a.now) at.left m (length b.now) at.right n (length out.old) at.entries }
+    ensures within { (result.left ≤ m) × ((result.right ≤ n) × ((at.left + at.right < result.left + result.right) × (result.entries ≤ result.left + result.right))) }
+    ensures passes { Passes a.now b.now m n at.left at.right at.entries out.old result.left result.right result.entries out.new }
 {
-    let x = head(a, i, m);
-    let y = head(b, j, n);
+    let x = head(a, at.left, m);
+    let y = head(b, at.right, n);
     if x < y {
-        return gone(a, i, j, out, k);
-    }
-    if y < x {
-        return come(b, i, j, out, k);
-    }
-    if codec::get32(a, 8 * i + 4) == codec::get32(b, 8 * j + 4) {
+        put_row(out, at.entries, 3, a, at.left);
         return Way {
-            left: i + 1,
-            right: j + 1,
-            entries: k,
+            left: at.left + 1,
+            entries: at.entries + 1,
+            ..at
         };
     }
-    recounted(a, i, b, j, out, k)
+    if y < x {
+        put_row(out, at.entries, 2, b, at.right);
+        return Way {
+            right: at.right + 1,
+            entries: at.entries + 1,
+            ..at
+        };
+    }
+    if codec::get32(a, 8 * at.left + 4) == codec::get32(b, 8 * at.right + 4) {
+        return Way {
+            left: at.left + 1,
+            right: at.right + 1,
+            ..at
+        };
+    }
+    put_recounted(out, at.entries, a, at.left, b, at.right);
+    Way {
+        left: at.left + 1,
+        right: at.right + 1,
+        entries: at.entries + 2,
+    }
 }
 
 // ---- the merge
@@ -144,15 +124,15 @@ pub fn merge(a: &[u8], b: &[u8], out: &mut [u8]) -> usize
 {
     let m = a.len() / 8;
     let n = b.len() / 8;
-    let mut i = 0;
-    let mut j = 0;
-    let mut k = 0;
-    while i + j < m + n {
-        let way = pass(a, i, m, b, j, n, out, k);
-        i = way.left;
-        j = way.right;
-        k = way.entries;
+    let mut way = Way {
+        left: 0,
+        right: 0,
+        entries: 0,
+    };
+    // A `while`: a step passes a row of either table or of both.
+    while way.left + way.right < m + n {
+        way = pass(a, m, b, n, out, way);
     }
-    codec::fill_zero(&mut out[12 * k..]);
-    k
+    codec::fill_zero(&mut out[12 * way.entries..]);
+    way.entries
 }

@@ -1,4 +1,5 @@
 -- The part that a view's answer names in numbers is the part that the call hands back. Assumes nothing.
+use Rattle.std.specs.Prelude.{Ok, Err}
 use Prim.Native.Nat.{ℕ, ◌+◌, ◌-◌, ◌*◌, ◌≤◌, min}
 use mathlib.Core.Path.{◌≡◌, refl, sym, ◌∙◌}
 use mathlib.Core.List.{List, []}
@@ -9,11 +10,13 @@ use lib.Seq.{take_all}
 use lib.Dec.{eqb, leb}
 use borrow.Author.Tests.{leb-true, leb-false}
 use Rattle.codec.specs.Parts.{part}
+use Rattle.model.specs.declared.Place.{Place}
 use Rattle.model.specs.declared.Place.TheVariants.{Empty, Area, Current}
-use Rattle.model.specs.declared.ViewAnswer.{ViewAnswer}
-use Rattle.model.specs.declared.ViewAnswer.TheVariants.{Outset, Refused}
+use Rattle.model.specs.declared.OutsetSaid.{OutsetSaid}
+use Rattle.model.specs.Answers.{Answer}
 use Rattle.model.specs.Queries.{rows_part}
-use Rattle.tables.specs.Parts.{viewed_part}
+use Rattle.tables.specs.Parts.{lent, viewed_part}
+use Rattle.numbered.specs.declared.outset.Span.{Span}
 use Rattle.numbered.specs.Answers.{place_out, span_of, view_out}
 
 -- no more is taken than is there
@@ -42,20 +45,33 @@ part_cut at k xs = by (leb at (length xs)) refl
         let zero_left : length xs - length xs ≡ 0 = omega arith in
         rw (m, none, none', zero_left) (take_cut k [])
 
-pub span-part : (R : ℕ) (areas current : List ℕ) (answer : ViewAnswer)
-    → let r = view_out R (length areas) (length current) answer in
-    viewed_part R areas current answer ≡ part r.start r.length (cond (eqb r.place 1) areas current)
-unfolding view_out viewed_part rows_part span_of place_out
-span-part R areas current (Outset Empty rows side between) = refl
-span-part R areas current (Outset (Area i) rows side between) = sym (part_cut (8 * R * i) (8 * rows) areas)
-span-part R areas current (Outset Current rows side between) = sym (take_cut (8 * rows) current)
-span-part R areas current (Refused why) = refl
+module _ (R : ℕ) (areas current : List ℕ) where
+  -- the part that rows at a place are
+  abbrev span : Place → ℕ → Span
+  span = span_of R (length areas) (length current)
 
--- on any memory it lies within its region
-pub span_within : (R : ℕ) (areas current : List ℕ) (answer : ViewAnswer)
-    → let r = view_out R (length areas) (length current) answer in r.start + r.length ≤ length (cond (eqb r.place 1) areas current)
-unfolding view_out span_of place_out
-span_within R areas current (Outset Empty rows side between) = omega arith
-span_within R areas current (Outset (Area i) rows side between) = omega arith
-span_within R areas current (Outset Current rows side between) = omega arith
-span_within R areas current (Refused why) = omega arith
+  rows-part : (place : Place) (rows : ℕ) → rows_part R (lent areas current) place rows
+      ≡ part (span place rows).start (span place rows).length (cond (eqb (place_out place) 1) areas current)
+  unfolding rows_part span_of place_out
+  rows-part Empty rows = refl
+  rows-part (Area i) rows = sym (part_cut (8 * R * i) (8 * rows) areas)
+  rows-part Current rows = sym (take_cut (8 * rows) current)
+
+  rows_within : (place : Place) (rows : ℕ) → (span place rows).start + (span place rows).length ≤ length (cond (eqb (place_out place) 1) areas current)
+  unfolding span_of place_out
+  rows_within Empty rows = omega arith
+  rows_within (Area i) rows = omega arith
+  rows_within Current rows = omega arith
+
+  pub span-part : (answer : Answer OutsetSaid) → let r = view_out R (length areas) (length current) answer in
+      viewed_part R areas current answer ≡ part r.start r.length (cond (eqb r.place 1) areas current)
+  unfolding view_out viewed_part
+  span-part (Ok said) = rows-part said.place said.rows
+  span-part (Err why) = refl
+
+  -- on any memory it lies within its region
+  pub span_within : (answer : Answer OutsetSaid) → let r = view_out R (length areas) (length current) answer in
+      r.start + r.length ≤ length (cond (eqb r.place 1) areas current)
+  unfolding view_out
+  span_within (Ok said) = rows_within said.place said.rows
+  span_within (Err why) = omega arith

@@ -1,13 +1,12 @@
 -- Through the contracts of `numbered::open` and `embed::yk_open`, what crosses to C tells the first wrong record (02, wish 4).
 -- Assumes nothing.
+use Rattle.std.specs.Prelude.{Ok, Err}
 use Prim.Native.Nat.{ℕ}
 use mathlib.Core.Path.{◌≡◌, sym, ap, ◌∙◌}
 use mathlib.Core.Logic.{◌↔◌}
 use native.Mathlib.Omega.{arith}
 use Rattle.model.specs.declared.Numbers.{Numbers}
-use Rattle.model.specs.declared.Verdict.{Verdict}
-use Rattle.model.specs.declared.Verdict.TheVariants as verdict
-use Rattle.model.specs.Answers.{refuses_at, verdict_outcome}
+use Rattle.model.specs.Answers.{refuses_at, outcome_of, Answer}
 use Rattle.model.specs.Starts.{After}
 use Rattle.model.proofs.FirstWrongLaws.{tells_first_wrong}
 use Rattle.model.specs.Promises.{refused_number}
@@ -21,10 +20,10 @@ use Rattle.numbered.specs.Crossed.{CrossedTellsFirstWrong}
 abbrev Says : YkChange → ℕ → Type 0
 Says r k = (r.question ≡ 17) × (r.«record» ≡ k)
 
-says_iff : (s : Numbers) (v : Verdict) (k : ℕ) → Says (change_out s v) k ↔ (verdict_outcome v ≡ refuses_at 17 k)
-unfolding change_out verdict_outcome refused_number record_in
-says_iff s verdict.Accepted k = (λ h. absurd (omega (arith, h.0)), λ e. (ap refused_number e, ap record_in e))
-says_iff s (verdict.Refused why) k = (λ h. wrong_record_at-17 why h.0 ∙ ap (refuses_at 17) h.1, λ e. (ap refused_number e, ap record_in e))
+says_iff : (s : Numbers) (v : Answer Unit) (k : ℕ) → Says (change_out s v) k ↔ (outcome_of v ≡ refuses_at 17 k)
+unfolding change_out refused_number record_in
+says_iff s (Ok u) k = (λ h. absurd (omega (arith, h.0)), λ e. (ap refused_number e, ap record_in e))
+says_iff s (Err why) k = (λ h. wrong_record_at-17 why h.0 ∙ ap (refuses_at 17) h.1, λ e. (ap refused_number e, ap record_in e))
 
 pub crossed_tells_first_wrong : CrossedTellsFirstWrong
 crossed_tells_first_wrong m r memory' c k =

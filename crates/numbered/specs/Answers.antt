@@ -1,29 +1,16 @@
 -- The answers in numbers: for each answer of a call the numbers that cross to C in its place, the question answered no by its
 -- number in 01. Computed cases in which all fields differ are in proofs/AnswerCases. Assumes nothing.
-use Rattle.std.specs.Prelude.{ℕ, ◌-◌, ◌*◌, min, Bool, cond, pos}
+use Rattle.std.specs.Prelude.{ℕ, ◌-◌, ◌*◌, min, Bool, cond, ℤ, pos, Ok, Err}
 use Rattle.model.specs.declared.Numbers.{Numbers}
-use Rattle.model.specs.declared.Verdict.{Verdict}
-use Rattle.model.specs.declared.Verdict.TheVariants as verdict
-use Rattle.model.specs.declared.PositionAnswer.{PositionAnswer}
-use Rattle.model.specs.declared.PositionAnswer.TheVariants as position
+use Rattle.model.specs.declared.Position.{Position}
 use Rattle.model.specs.declared.Side.{Side}
 use Rattle.model.specs.declared.Side.TheVariants.{Earlier, Later}
 use Rattle.model.specs.declared.Place.{Place}
 use Rattle.model.specs.declared.Place.TheVariants.{Empty, Area, Current}
-use Rattle.model.specs.declared.TableAnswer.{TableAnswer}
-use Rattle.model.specs.declared.TableAnswer.TheVariants as table
-use Rattle.model.specs.declared.ViewAnswer.{ViewAnswer}
-use Rattle.model.specs.declared.ViewAnswer.TheVariants as view
-use Rattle.model.specs.declared.NetChangeAnswer.{NetChangeAnswer}
-use Rattle.model.specs.declared.NetChangeAnswer.TheVariants as net
-use Rattle.model.specs.declared.UnitsAnswer.{UnitsAnswer}
-use Rattle.model.specs.declared.UnitsAnswer.TheVariants as units
-use Rattle.model.specs.declared.DifferenceAnswer.{DifferenceAnswer}
-use Rattle.model.specs.declared.DifferenceAnswer.TheVariants as difference
-use Rattle.model.specs.declared.DropMarkedAnswer.{DropMarkedAnswer}
-use Rattle.model.specs.declared.DropMarkedAnswer.TheVariants as marked
-use Rattle.lending.specs.declared.LengthsAnswer.{LengthsAnswer}
-use Rattle.lending.specs.declared.LengthsAnswer.TheVariants as lengths
+use Rattle.model.specs.declared.TableSaid.{TableSaid}
+use Rattle.model.specs.declared.OutsetSaid.{OutsetSaid}
+use Rattle.model.specs.Answers.{Answer}
+use Rattle.lending.specs.declared.Lengths.{Lengths}
 use Rattle.answers.specs.Question.{number_of, record_of}
 use Rattle.numbered.specs.declared.answer.YkChange.{YkChange}
 use Rattle.numbered.specs.declared.answer.YkPosition.{YkPosition}
@@ -36,26 +23,26 @@ use Rattle.numbered.specs.declared.answer.YkDropMarked.{YkDropMarked}
 use Rattle.numbered.specs.declared.outset.Span.{Span}
 use Rattle.numbered.specs.declared.needed.YkLengths.{YkLengths}
 
-unfoldable pub change_out : Numbers → Verdict → YkChange
-change_out s verdict.Accepted = record { numbers = s; question = 0; «record» = 0 }
-change_out s (verdict.Refused why) = record { numbers = s; question = number_of why; «record» = record_of why }
+unfoldable pub change_out : Numbers → Answer Unit → YkChange
+change_out s (Ok u) = record { numbers = s; question = 0; «record» = 0 }
+change_out s (Err why) = record { numbers = s; question = number_of why; «record» = record_of why }
 
-unfoldable pub drop_marked_out : Numbers → DropMarkedAnswer → YkDropMarked
-drop_marked_out s (marked.Gone k) = record { numbers = s; question = 0; gone = k }
-drop_marked_out s (marked.Refused why) = record { numbers = s; question = number_of why; gone = 0 }
+unfoldable pub drop_marked_out : Numbers → Answer ℕ → YkDropMarked
+drop_marked_out s (Ok k) = record { numbers = s; question = 0; gone = k }
+drop_marked_out s (Err why) = record { numbers = s; question = number_of why; gone = 0 }
 
-unfoldable pub position_out : PositionAnswer → YkPosition
-position_out (position.At p) = record { question = 0; page = p.page.0; requests = p.requests }
-position_out (position.Refused why) = record { question = number_of why; page = 0; requests = 0 }
+unfoldable pub position_out : Answer Position → YkPosition
+position_out (Ok p) = record { question = 0; page = p.page.0; requests = p.requests }
+position_out (Err why) = record { question = number_of why; page = 0; requests = 0 }
 
 -- 1 for the later side
 unfoldable pub later_of : Side → ℕ
 later_of Earlier = 0
 later_of Later = 1
 
-unfoldable pub table_out : TableAnswer → YkTable
-table_out (table.Table rows side between) = record { question = 0; rows = rows; later = later_of side; between = between }
-table_out (table.Refused why) = record { question = number_of why; rows = 0; later = 0; between = 0 }
+unfoldable pub table_out : Answer TableSaid → YkTable
+table_out (Ok s) = record { question = 0; rows = s.rows; later = later_of s.side; between = s.between }
+table_out (Err why) = record { question = number_of why; rows = 0; later = 0; between = 0 }
 
 -- ---- the view
 
@@ -79,34 +66,34 @@ span_of R areas current Empty rows = span 0 0
 span_of R areas current (Area i) rows = let at = min (8 * R * i) areas in span at (min (8 * rows) (areas - at))
 span_of R areas current Current rows = span 0 (min (8 * rows) current)
 
-unfoldable pub view_out : (R areas current : ℕ) → ViewAnswer → YkView
-view_out R areas current (view.Outset place rows side between) =
+unfoldable pub view_out : (R areas current : ℕ) → Answer OutsetSaid → YkView
+view_out R areas current (Ok s) =
     record {
       question = 0;
-      place = place_out place;
-      area = area_out place;
-      rows = rows;
-      later = later_of side;
-      between = between;
-      start = (span_of R areas current place rows).start;
-      length = (span_of R areas current place rows).length;
+      place = place_out s.place;
+      area = area_out s.place;
+      rows = s.rows;
+      later = later_of s.side;
+      between = s.between;
+      start = (span_of R areas current s.place s.rows).start;
+      length = (span_of R areas current s.place s.rows).length;
     }
-view_out R areas current (view.Refused why) =
+view_out R areas current (Err why) =
     record { question = number_of why; place = 0; area = 0; rows = 0; later = 0; between = 0; start = 0; length = 0 }
 
 -- ---- net change, units and audit
 
-unfoldable pub net_change_out : NetChangeAnswer → YkNetChange
-net_change_out (net.Entries k) = record { question = 0; entries = k }
-net_change_out (net.Refused why) = record { question = number_of why; entries = 0 }
+unfoldable pub net_change_out : Answer ℕ → YkNetChange
+net_change_out (Ok k) = record { question = 0; entries = k }
+net_change_out (Err why) = record { question = number_of why; entries = 0 }
 
-unfoldable pub units_out : UnitsAnswer → YkUnits
-units_out (units.Units k) = record { question = 0; units = k }
-units_out (units.Refused why) = record { question = number_of why; units = 0 }
+unfoldable pub units_out : Answer ℕ → YkUnits
+units_out (Ok k) = record { question = 0; units = k }
+units_out (Err why) = record { question = number_of why; units = 0 }
 
-unfoldable pub difference_out : DifferenceAnswer → YkDifference
-difference_out (difference.Difference k) = record { question = 0; units = k }
-difference_out (difference.Refused why) = record { question = number_of why; units = pos 0 }
+unfoldable pub difference_out : Answer ℤ → YkDifference
+difference_out (Ok k) = record { question = 0; units = k }
+difference_out (Err why) = record { question = number_of why; units = pos 0 }
 
 -- 1 for yes
 abbrev pub yes_out : Bool → ℕ
@@ -114,8 +101,8 @@ yes_out b = cond b 1 0
 
 -- ---- the lengths to lend
 
-unfoldable pub lengths_out : LengthsAnswer → YkLengths
-lengths_out (lengths.Lend l) =
+unfoldable pub lengths_out : Answer Lengths → YkLengths
+lengths_out (Ok l) =
     record {
       question = 0;
       log = l.log;
@@ -126,5 +113,5 @@ lengths_out (lengths.Lend l) =
       output = l.output;
       workspace = l.workspace;
     }
-lengths_out (lengths.Refused why) =
+lengths_out (Err why) =
     record { question = number_of why; log = 0; index = 0; table = 0; entries = 0; areas = 0; output = 0; workspace = 0 }

@@ -1,13 +1,10 @@
 // The answers in numbers: for each answer of a call the struct that crosses to C in its place.
 ghost use Rattle.std.specs.Prelude.{◌≡◌};
-ghost use Rattle.numbered.specs.Answers.{change_out, position_out, later_of, table_out, net_change_out, units_out, difference_out, drop_marked_out, yes_out};
+ghost use Rattle.numbered.specs.Answers.{change_out, position_out, later_of, table_out, net_change_out, units_out, difference_out, drop_marked_out};
 
 use answers::question;
-use filing::{Cleared, Dropped, Kept};
-use model::{
-    Changed, DifferenceAnswer, DropMarkedAnswer, Entry, NetChangeAnswer, Numbers, PositionAnswer,
-    Side, TableAnswer, UnitsAnswer, Verdict,
-};
+use filing::{Dropped, Kept};
+use model::{Changed, Entry, Numbers, Position, Refusal, Side, TableSaid};
 use opening::Started;
 
 // The answer of a call that may change the store: the numbers then, the question answered no, or 0, and at 17 the record
@@ -87,157 +84,129 @@ pub struct KeptOut {
     pub end: usize,
 }
 
-// What a drop answers, and over how many entries those that stay are closed up.
+// What a drop answers, of a time or by mark, and over how many entries those that stay are closed up.
 #[derive(Clone, Copy)]
-pub struct DroppedOut {
-    pub change: YkChange,
+pub struct DroppedOut<A> {
+    pub answer: A,
     pub over: usize,
 }
 
-// The same of a drop by mark.
-#[derive(Clone, Copy)]
-pub struct ClearedOut {
-    pub answer: YkDropMarked,
-    pub over: usize,
-}
+// What insert, delete or update answered.
+impl From<Changed> for YkChange {
+    ghost from_gives = { λ x r. r ≡ change_out x.numbers x.verdict };
 
-fn change_out(numbers: Numbers, verdict: Verdict) -> YkChange
-    ensures { result ≡ change_out numbers verdict }
-{
-    match verdict {
-        Verdict::Accepted => YkChange {
-            numbers,
-            question: 0,
-            record: 0,
-        },
-        Verdict::Refused(why) => {
-            let no = answers::number(why);
-            YkChange {
+    #[tactic(auto, unfolding(crate::specs::Answers::change_out))]
+    fn from(x: Changed) -> YkChange {
+        let numbers = x.numbers;
+        match x.verdict {
+            Ok(()) => YkChange {
                 numbers,
-                question: no.0,
-                record: no.1,
+                question: 0,
+                record: 0,
+            },
+            Err(why) => {
+                let no = answers::number(why);
+                YkChange {
+                    numbers,
+                    question: no.0,
+                    record: no.1,
+                }
             }
         }
     }
 }
 
-// What insert, delete or update answered, in numbers.
-pub fn append_out(x: Changed) -> YkChange
-    ensures { result ≡ change_out x.numbers x.verdict }
-{
-    let verdict = x.verdict;
-    change_out(x.numbers, verdict)
-}
+impl From<Started> for Begun {
+    ghost from_gives = { λ x r. r ≡ record { change = change_out x.numbers x.verdict; clears = x.clears } };
 
-// What a start answered, in numbers.
-pub fn begin(x: Started) -> Begun
-    ensures { (result.change ≡ change_out x.numbers x.verdict) × (result.clears ≡ x.clears) }
-{
-    let verdict = x.verdict;
-    Begun {
-        change: change_out(x.numbers, verdict),
-        clears: x.clears,
+    fn from(x: Started) -> Begun {
+        Begun {
+            change: YkChange::from(Changed {
+                numbers: x.numbers,
+                verdict: x.verdict,
+            }),
+            clears: x.clears,
+        }
     }
 }
 
-pub fn begun_change(r: Begun) -> YkChange
-    ensures { result ≡ r.change }
-{
-    let change = r.change;
-    change
-}
+impl From<Kept> for KeptOut {
+    ghost from_gives = { λ x r. r ≡ record { change = change_out x.numbers x.verdict; entry = x.entry; at = x.at; end = x.end } };
 
-// What a keep answered, in numbers.
-pub fn keep_out(x: Kept) -> KeptOut
-    ensures { result ≡ record { change = change_out x.numbers x.verdict; entry = x.entry; at = x.at; end = x.end } }
-{
-    let verdict = x.verdict;
-    let entry = x.entry;
-    KeptOut {
-        change: change_out(x.numbers, verdict),
-        entry,
-        at: x.at,
-        end: x.end,
+    fn from(x: Kept) -> KeptOut {
+        KeptOut {
+            change: YkChange::from(Changed {
+                numbers: x.numbers,
+                verdict: x.verdict,
+            }),
+            entry: x.entry,
+            at: x.at,
+            end: x.end,
+        }
     }
 }
 
-pub fn kept_change(r: KeptOut) -> YkChange
-    ensures { result ≡ r.change }
-{
-    let change = r.change;
-    change
-}
+impl From<Dropped<()>> for DroppedOut<YkChange> {
+    ghost from_gives = { λ x r. r ≡ record { answer = change_out x.numbers x.answer; over = x.over } };
 
-// What a drop answered, in numbers.
-pub fn drop_out(x: Dropped) -> DroppedOut
-    ensures { result ≡ record { change = change_out x.numbers x.verdict; over = x.over } }
-{
-    let verdict = x.verdict;
-    DroppedOut {
-        change: change_out(x.numbers, verdict),
-        over: x.over,
+    fn from(x: Dropped<()>) -> DroppedOut<YkChange> {
+        DroppedOut {
+            answer: YkChange::from(Changed {
+                numbers: x.numbers,
+                verdict: x.answer,
+            }),
+            over: x.over,
+        }
     }
 }
 
-pub fn dropped_change(r: DroppedOut) -> YkChange
-    ensures { result ≡ r.change }
-{
-    let change = r.change;
-    change
-}
+impl From<Dropped<u32>> for DroppedOut<YkDropMarked> {
+    ghost from_gives = { λ x r. r ≡ record { answer = drop_marked_out x.numbers x.answer; over = x.over } };
 
-fn drop_marked_out(numbers: Numbers, answer: DropMarkedAnswer) -> YkDropMarked
-    ensures { result ≡ drop_marked_out numbers answer }
-{
-    match answer {
-        DropMarkedAnswer::Gone(k) => YkDropMarked {
-            numbers,
-            question: 0,
-            gone: k,
-        },
-        DropMarkedAnswer::Refused(why) => YkDropMarked {
-            numbers,
-            question: question(why),
-            gone: 0,
-        },
+    #[tactic(auto, unfolding(crate::specs::Answers::drop_marked_out))]
+    fn from(x: Dropped<u32>) -> DroppedOut<YkDropMarked> {
+        let numbers = x.numbers;
+        let answer = match x.answer {
+            Ok(k) => YkDropMarked {
+                numbers,
+                question: 0,
+                gone: k,
+            },
+            Err(why) => YkDropMarked {
+                numbers,
+                question: question(why),
+                gone: 0,
+            },
+        };
+        DroppedOut {
+            answer,
+            over: x.over,
+        }
     }
 }
 
-// What a drop by mark answered, in numbers.
-pub fn clear_out(x: Cleared) -> ClearedOut
-    ensures { result ≡ record { answer = drop_marked_out x.numbers x.answer; over = x.over } }
-{
-    let answer = x.answer;
-    ClearedOut {
-        answer: drop_marked_out(x.numbers, answer),
-        over: x.over,
+impl From<Result<Position, Refusal>> for YkPosition {
+    ghost from_gives = { λ x r. r ≡ position_out x };
+
+    #[tactic(auto, unfolding(crate::specs::Answers::position_out))]
+    fn from(x: Result<Position, Refusal>) -> YkPosition {
+        match x {
+            Ok(p) => YkPosition {
+                question: 0,
+                page: p.page.0,
+                requests: p.requests,
+            },
+            Err(why) => YkPosition {
+                question: question(why),
+                page: 0,
+                requests: 0,
+            },
+        }
     }
 }
 
-pub fn cleared_answer(r: ClearedOut) -> YkDropMarked
-    ensures { result ≡ r.answer }
-{
-    let answer = r.answer;
-    answer
-}
-
-pub fn position_out(answer: PositionAnswer) -> YkPosition
-    ensures { result ≡ position_out answer }
-{
-    match answer {
-        PositionAnswer::At(p) => YkPosition {
-            question: 0,
-            page: p.page.0,
-            requests: p.requests,
-        },
-        PositionAnswer::Refused(why) => YkPosition {
-            question: question(why),
-            page: 0,
-            requests: 0,
-        },
-    }
-}
-
+// No `From`: neither `Side` nor `u8` is this crate's.
+#[tactic(auto, unfolding(crate::specs::Answers::later_of))]
 pub fn later_of(side: Side) -> u8
     ensures { result ≡ later_of side }
 {
@@ -247,80 +216,78 @@ pub fn later_of(side: Side) -> u8
     }
 }
 
-pub fn table_out(answer: TableAnswer) -> YkTable
-    ensures { result ≡ table_out answer }
-{
-    match answer {
-        TableAnswer::Table {
-            rows,
-            side,
-            between,
-        } => YkTable {
-            question: 0,
-            rows,
-            later: later_of(side),
-            between,
-        },
-        TableAnswer::Refused(why) => YkTable {
-            question: question(why),
-            rows: 0,
-            later: 0,
-            between: 0,
-        },
+impl From<Result<TableSaid, Refusal>> for YkTable {
+    ghost from_gives = { λ x r. r ≡ table_out x };
+
+    #[tactic(auto, unfolding(crate::specs::Answers::table_out))]
+    fn from(x: Result<TableSaid, Refusal>) -> YkTable {
+        match x {
+            Ok(said) => YkTable {
+                question: 0,
+                rows: said.rows,
+                later: later_of(said.side),
+                between: said.between,
+            },
+            Err(why) => YkTable {
+                question: question(why),
+                rows: 0,
+                later: 0,
+                between: 0,
+            },
+        }
     }
 }
 
-pub fn net_change_out(answer: NetChangeAnswer) -> YkNetChange
-    ensures { result ≡ net_change_out answer }
-{
-    match answer {
-        NetChangeAnswer::Entries(k) => YkNetChange {
-            question: 0,
-            entries: k,
-        },
-        NetChangeAnswer::Refused(why) => YkNetChange {
-            question: question(why),
-            entries: 0,
-        },
+impl From<Result<u32, Refusal>> for YkNetChange {
+    ghost from_gives = { λ x r. r ≡ net_change_out x };
+
+    #[tactic(auto, unfolding(crate::specs::Answers::net_change_out))]
+    fn from(x: Result<u32, Refusal>) -> YkNetChange {
+        match x {
+            Ok(k) => YkNetChange {
+                question: 0,
+                entries: k,
+            },
+            Err(why) => YkNetChange {
+                question: question(why),
+                entries: 0,
+            },
+        }
     }
 }
 
-pub fn units_out(answer: UnitsAnswer) -> YkUnits
-    ensures { result ≡ units_out answer }
-{
-    match answer {
-        UnitsAnswer::Units(k) => YkUnits {
-            question: 0,
-            units: k,
-        },
-        UnitsAnswer::Refused(why) => YkUnits {
-            question: question(why),
-            units: 0,
-        },
+impl From<Result<u64, Refusal>> for YkUnits {
+    ghost from_gives = { λ x r. r ≡ units_out x };
+
+    #[tactic(auto, unfolding(crate::specs::Answers::units_out))]
+    fn from(x: Result<u64, Refusal>) -> YkUnits {
+        match x {
+            Ok(k) => YkUnits {
+                question: 0,
+                units: k,
+            },
+            Err(why) => YkUnits {
+                question: question(why),
+                units: 0,
+            },
+        }
     }
 }
 
-pub fn difference_out(answer: DifferenceAnswer) -> YkDifference
-    ensures { result ≡ difference_out answer }
-{
-    match answer {
-        DifferenceAnswer::Difference(k) => YkDifference {
-            question: 0,
-            units: k,
-        },
-        DifferenceAnswer::Refused(why) => YkDifference {
-            question: question(why),
-            units: 0,
-        },
-    }
-}
+impl From<Result<i64, Refusal>> for YkDifference {
+    ghost from_gives = { λ x r. r ≡ difference_out x };
 
-// 1 for yes, 0 for no.
-pub fn yes_out(yes: bool) -> u8
-    ensures { result ≡ yes_out yes }
-{
-    if yes {
-        return 1;
+    #[tactic(auto, unfolding(crate::specs::Answers::difference_out))]
+    fn from(x: Result<i64, Refusal>) -> YkDifference {
+        match x {
+            Ok(k) => YkDifference {
+                question: 0,
+                units: k,
+            },
+            Err(why) => YkDifference {
+                question: question(why),
+                units: 0,
+            },
+        }
     }
-    0
 }

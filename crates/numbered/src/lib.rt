@@ -17,13 +17,15 @@ ghost use Rattle.numbered.specs.Lent.{memory_of, cleared, store_lent};
 ghost use Rattle.numbered.specs.Crossed.{ExactlyCrossed, AppendCrossed, PositionCrossed, TableCrossed, ViewCrossed, NetChangeCrossed, UnitsCrossed, DifferenceCrossed, KeepCrossed, DropMarkedCrossed, LengthsCrossed};
 
 use answer::{
-    Begun, ClearedOut, DroppedOut, KeptOut, YkChange, YkDifference, YkNetChange, YkPosition,
+    Begun, DroppedOut, KeptOut, YkChange, YkDifference, YkDropMarked, YkNetChange, YkPosition,
     YkTable, YkUnits,
 };
 use catalogue::{Candidates, Catalogue, Staying};
 use model::Numbers;
 use needed::YkLengths;
 use outset::YkView;
+use pages::Lent;
+use tree::Extents;
 
 pub mod answer; // answer.rt: the answers in numbers
 pub mod needed; // needed.rt: the lengths to lend
@@ -32,7 +34,7 @@ pub mod outset; // outset.rt: that of a view
 pub fn lengths_for(order: u16, page: u16, limit: u32, records: u32, files: u32) -> YkLengths
     ensures { LengthsCrossed result order page limit records files }
 {
-    needed::lengths_out(lending::lengths_for(order, page, limit, records, files))
+    lending::lengths_for(order, page, limit, records, files).into()
 }
 
 pub fn fresh(
@@ -49,7 +51,7 @@ pub fn fresh(
         → ExactlyCrossed result.change (memory_of log.new index current.new (cleared result.clears catalogue) area)
         (fresh_of order page limit (memory_of log.old index current.old catalogue area)) }
 {
-    answer::begin(opening::fresh(order, page, limit, log, current, entries, areas))
+    opening::fresh(order, page, limit, log, current, entries, areas).into()
 }
 
 pub fn open(
@@ -64,9 +66,8 @@ pub fn open(
         → ExactlyCrossed result.change (memory_of log.now index.new current.new (cleared result.clears catalogue) area)
         (open_of (memory_of log.now index.old current.old catalogue area)) }
 {
-    let none = [0u64; 1];
-    let words = index.len();
-    answer::begin(opening::open(log, index, 0, &none, words, current, entries, areas))
+    let x = Extents::one_stretch(index.len());
+    opening::open(log, index, x, current, entries, areas).into()
 }
 
 pub fn insert(
@@ -85,12 +86,8 @@ pub fn insert(
         (memory_of log.new index.new current.new catalogue area)
         (insert_of (store_lent s log.old index.old current.old catalogue area) t article count) }
 {
-    let none = [0u64; 1];
-    let words = index.len();
-    let r = appending::insert(
-        s, log, index, 0, &none, words, current, entries, areas, t, article, count,
-    );
-    answer::append_out(r)
+    let x = Extents::one_stretch(index.len());
+    appending::insert(s, log, index, x, current, entries, areas, t, article, count).into()
 }
 
 pub fn delete(
@@ -108,12 +105,8 @@ pub fn delete(
         (memory_of log.new index.new current.new catalogue area)
         (delete_of (store_lent s log.old index.old current.old catalogue area) t article) }
 {
-    let none = [0u64; 1];
-    let words = index.len();
-    let r = appending::delete(
-        s, log, index, 0, &none, words, current, entries, areas, t, article,
-    );
-    answer::append_out(r)
+    let x = Extents::one_stretch(index.len());
+    appending::delete(s, log, index, x, current, entries, areas, t, article).into()
 }
 
 pub fn update(
@@ -132,12 +125,8 @@ pub fn update(
         (memory_of log.new index.new current.new catalogue area)
         (update_of (store_lent s log.old index.old current.old catalogue area) t article count) }
 {
-    let none = [0u64; 1];
-    let words = index.len();
-    let r = appending::update(
-        s, log, index, 0, &none, words, current, entries, areas, t, article, count,
-    );
-    answer::append_out(r)
+    let x = Extents::one_stretch(index.len());
+    appending::update(s, log, index, x, current, entries, areas, t, article, count).into()
 }
 
 pub fn position(
@@ -152,19 +141,17 @@ pub fn position(
     ensures { (catalogue : List Entry) (area : List ℕ) → length catalogue ≡ entries → length area ≡ areas
         → PositionCrossed result (store_lent s log.now index.now current.now catalogue area) t }
 {
-    let none = [0u64; 1];
-    let words = index.len();
-    let r = tables::position(s, log, index, 0, &none, words, current, entries, areas, t);
-    answer::position_out(r)
+    let l = Lent::in_one_stretch(s, log, index, current);
+    tables::position(l, entries, areas, t).into()
 }
 
-pub fn table<'a>(
+pub fn table(
     s: Numbers,
     log: &[u8],
     index: &[u64],
-    current: &'a [u8],
+    current: &[u8],
     c: Candidates,
-    areas: &'a [u8],
+    areas: &[u8],
     t: u64,
     out: &mut [u8],
 ) -> YkTable
@@ -172,10 +159,8 @@ pub fn table<'a>(
         → TableCrossed result (store_lent s log.now index.now current.now catalogue areas.now) t
         out.old out.new }
 {
-    let none = [0u64; 1];
-    let words = index.len();
-    let r = tables::table(s, log, index, 0, &none, words, current, c, areas, t, out);
-    answer::table_out(r)
+    let l = Lent::in_one_stretch(s, log, index, current);
+    tables::table(l, c, areas, t, out).into()
 }
 
 pub fn view(
@@ -190,20 +175,23 @@ pub fn view(
     ensures { (catalogue : List Entry) → c ≡ candidates_in s t catalogue
         → ViewCrossed result (store_lent s log.now index.now current.now catalogue areas.now) t }
 {
-    let none = [0u64; 1];
-    let words = index.len();
-    let answer = tables::view(s, log, index, 0, &none, words, current, c, areas, t);
-    outset::view_out(s.limit, areas.len(), current.len(), answer)
+    let l = Lent::in_one_stretch(s, log, index, current);
+    outset::view_out(
+        s.limit,
+        areas.len(),
+        current.len(),
+        tables::view(l, c, areas, t),
+    )
 }
 
-pub fn net_change<'a>(
+pub fn net_change(
     s: Numbers,
     log: &[u8],
     index: &[u64],
-    current: &'a [u8],
+    current: &[u8],
     first: Candidates,
     second: Candidates,
-    areas: &'a [u8],
+    areas: &[u8],
     a: u64,
     b: u64,
     out: &mut [u8],
@@ -213,52 +201,42 @@ pub fn net_change<'a>(
         → NetChangeCrossed result (store_lent s log.now index.now current.now catalogue areas.now) a b
         out.old work.old out.new work.new }
 {
-    let none = [0u64; 1];
-    let words = index.len();
-    let r = comparing::net_change(
-        s, log, index, 0, &none, words, current, first, second, areas, a, b, out, work,
-    );
-    answer::net_change_out(r)
+    let l = Lent::in_one_stretch(s, log, index, current);
+    comparing::net_change(l, first, second, areas, a, b, out, work).into()
 }
 
-pub fn units<'a>(
+pub fn units(
     s: Numbers,
     log: &[u8],
     index: &[u64],
-    current: &'a [u8],
+    current: &[u8],
     c: Candidates,
-    areas: &'a [u8],
+    areas: &[u8],
     t: u64,
 ) -> YkUnits
     ensures { (catalogue : List Entry) → c ≡ candidates_in s t catalogue
         → UnitsCrossed result (store_lent s log.now index.now current.now catalogue areas.now) t }
 {
-    let none = [0u64; 1];
-    let words = index.len();
-    let r = units::at(s, log, index, 0, &none, words, current, c, areas, t);
-    answer::units_out(r)
+    let l = Lent::in_one_stretch(s, log, index, current);
+    units::at(l, c, areas, t).into()
 }
 
-pub fn units_between<'a>(
+pub fn units_between(
     s: Numbers,
     log: &[u8],
     index: &[u64],
-    current: &'a [u8],
+    current: &[u8],
     first: Candidates,
     second: Candidates,
-    areas: &'a [u8],
+    areas: &[u8],
     a: u64,
     b: u64,
 ) -> YkDifference
     ensures { (catalogue : List Entry) → first ≡ candidates_in s a catalogue → second ≡ candidates_in s b catalogue
         → DifferenceCrossed result (store_lent s log.now index.now current.now catalogue areas.now) a b }
 {
-    let none = [0u64; 1];
-    let words = index.len();
-    let r = units::between(
-        s, log, index, 0, &none, words, current, first, second, areas, a, b,
-    );
-    answer::difference_out(r)
+    let l = Lent::in_one_stretch(s, log, index, current);
+    units::between(l, first, second, areas, a, b).into()
 }
 
 pub fn keep(
@@ -279,12 +257,8 @@ pub fn keep(
         → KeepCrossed result.change (store_lent s log.now index.now current.now catalogue areas.old) t mark
         (memory_of log.now index.now current.now (entry_shifted catalogue result.at result.end result.entry) areas.new) }
 {
-    let none = [0u64; 1];
-    let words = index.len();
-    let r = filing::keep(
-        s, log, index, 0, &none, words, current, c, at, areas, t, mark,
-    );
-    answer::keep_out(r)
+    let l = Lent::in_one_stretch(s, log, index, current);
+    filing::keep(l, c, at, areas, t, mark).into()
 }
 
 pub fn drop(
@@ -295,13 +269,13 @@ pub fn drop(
     x: Staying,
     areas: &mut [u8],
     t: u64,
-) -> DroppedOut
+) -> DroppedOut<YkChange>
     ensures few { (result.over ≤ 16) × ((result.over ≤ x.lent) × (result.over ≤ s.files)) }
     ensures kept { (catalogue : List Entry) → x ≡ staying_of (Of t) (used_in s catalogue) (length catalogue)
-        → ExactlyCrossed result.change (memory_of log.now index.now current.now (entries_closed (stays_when (Of t)) result.over catalogue) areas.new)
+        → ExactlyCrossed result.answer (memory_of log.now index.now current.now (entries_closed (stays_when (Of t)) result.over catalogue) areas.new)
         (drop_of (store_lent s log.now index.now current.now catalogue areas.old) t) }
 {
-    answer::drop_out(filing::drop(s, log, index.len(), current, x, areas, t))
+    filing::drop(s, log, index.len(), current, x, areas, t).into()
 }
 
 pub fn drop_marked(
@@ -312,14 +286,14 @@ pub fn drop_marked(
     x: Staying,
     areas: &mut [u8],
     mark: u32,
-) -> ClearedOut
+) -> DroppedOut<YkDropMarked>
     requires { x.count ≤ s.files }
     ensures few { (result.over ≤ 16) × ((result.over ≤ x.lent) × (result.over ≤ s.files)) }
     ensures kept { (catalogue : List Entry) → x ≡ staying_of (Marked mark) (used_in s catalogue) (length catalogue)
         → DropMarkedCrossed result.answer (memory_of log.now index.now current.now (entries_closed (stays_when (Marked mark)) result.over catalogue) areas.new)
         (drop_marked_of (store_lent s log.now index.now current.now catalogue areas.old) mark) }
 {
-    answer::clear_out(filing::drop_marked(s, log, index.len(), current, x, areas, mark))
+    filing::drop_marked(s, log, index.len(), current, x, areas, mark).into()
 }
 
 pub fn audit(
@@ -333,8 +307,6 @@ pub fn audit(
     ensures { (catalogue : List Entry) → c ≡ by_value catalogue
         → result ≡ yes_out (audit_of (store_lent s log.now index.now current.now catalogue areas.now)) }
 {
-    let none = [0u64; 1];
-    let words = index.len();
-    let r = auditing::audit(s, log, index, 0, &none, words, current, c, areas);
-    answer::yes_out(r)
+    let l = Lent::in_one_stretch(s, log, index, current);
+    u8::from(auditing::audit(l, c, areas))
 }

@@ -3,11 +3,12 @@ ghost use Rattle.std.specs.Prelude.{◌≡◌};
 ghost use Rattle.numbered.specs.Answers.{lengths_out};
 
 use answers::question;
-use lending::LengthsAnswer;
+use lending::Lengths;
+use model::Refusal;
 
 // The question answered no, or 0; and the lengths, all 0 where one is.
 #[repr(C)]
-#[derive(Clone, Copy)]
+#[derive(Clone, Copy, Default)]
 pub struct YkLengths {
     pub question: u8,
     pub log: usize,
@@ -19,29 +20,26 @@ pub struct YkLengths {
     pub workspace: usize,
 }
 
-pub fn lengths_out(answer: LengthsAnswer) -> YkLengths
-    ensures { result ≡ lengths_out answer }
-{
-    match answer {
-        LengthsAnswer::Lend(l) => YkLengths {
-            question: 0,
-            log: l.log,
-            index: l.index,
-            table: l.table,
-            entries: l.entries,
-            areas: l.areas,
-            output: l.output,
-            workspace: l.workspace,
-        },
-        LengthsAnswer::Refused(why) => YkLengths {
-            question: question(why),
-            log: 0,
-            index: 0,
-            table: 0,
-            entries: 0,
-            areas: 0,
-            output: 0,
-            workspace: 0,
-        },
+impl From<Result<Lengths, Refusal>> for YkLengths {
+    ghost from_gives = { λ x r. r ≡ lengths_out x };
+
+    #[tactic(auto, unfolding(crate::specs::Answers::lengths_out))]
+    fn from(x: Result<Lengths, Refusal>) -> YkLengths {
+        match x {
+            Ok(l) => YkLengths {
+                question: 0,
+                log: l.log,
+                index: l.index,
+                table: l.table,
+                entries: l.entries,
+                areas: l.areas,
+                output: l.output,
+                workspace: l.workspace,
+            },
+            Err(why) => YkLengths {
+                question: question(why),
+                ..YkLengths::default()
+            },
+        }
     }
 }

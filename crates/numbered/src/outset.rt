@@ -4,12 +4,12 @@ ghost use Rattle.numbered.specs.Answers.{place_out, area_out, span_of, view_out}
 
 use super::answer::later_of;
 use answers::question;
-use model::{Place, ViewAnswer};
+use model::{OutsetSaid, Place, Refusal};
 
 // The answer of a view: the outset's place (0 empty, 1 an area, 2 the current table), the number of its area, its rows, side
 // and the requests between; and the part that its rows are, in bytes of the areas or of the current table.
 #[repr(C)]
-#[derive(Clone, Copy)]
+#[derive(Clone, Copy, Default)]
 pub struct YkView {
     pub question: u8,
     pub place: u8,
@@ -28,6 +28,7 @@ pub struct Span {
     pub length: usize,
 }
 
+#[tactic(auto, unfolding(crate::specs::Answers::place_out))]
 fn place_out(place: Place) -> u8
     ensures { result ≡ place_out place }
 {
@@ -38,17 +39,18 @@ fn place_out(place: Place) -> u8
     }
 }
 
+#[tactic(auto, unfolding(crate::specs::Answers::area_out))]
 fn area_out(place: Place) -> u32
     ensures { result ≡ area_out place }
 {
     match place {
-        Place::Empty => 0,
         Place::Area(i) => i,
-        Place::Current => 0,
+        Place::Empty | Place::Current => 0,
     }
 }
 
 // The part that the rows of a held table are, cut where the bytes lent end.
+#[tactic(auto, unfolding(crate::specs::Answers::span_of))]
 fn span_of(limit: u32, areas: usize, current: usize, place: Place, rows: u32) -> Span
     ensures { result ≡ span_of limit areas current place rows }
 {
@@ -62,47 +64,43 @@ fn span_of(limit: u32, areas: usize, current: usize, place: Place, rows: u32) ->
             let start = tables::area_start(limit, i, areas);
             Span {
                 start,
-                length: codec::least(size, areas - start),
+                length: size.min(areas - start),
             }
         }
         Place::Current => Span {
             start: 0,
-            length: codec::least(size, current),
+            length: size.min(current),
         },
     }
 }
 
-pub fn view_out(limit: u32, areas: usize, current: usize, answer: ViewAnswer) -> YkView
+// No `From`: the part is also of the limit and of the lengths lent.
+#[tactic(auto, unfolding(crate::specs::Answers::view_out))]
+pub fn view_out(
+    limit: u32,
+    areas: usize,
+    current: usize,
+    answer: Result<OutsetSaid, Refusal>,
+) -> YkView
     ensures { result ≡ view_out limit areas current answer }
 {
     match answer {
-        ViewAnswer::Outset {
-            place,
-            rows,
-            side,
-            between,
-        } => {
-            let span = span_of(limit, areas, current, place, rows);
+        Ok(said) => {
+            let span = span_of(limit, areas, current, said.place, said.rows);
             YkView {
                 question: 0,
-                place: place_out(place),
-                area: area_out(place),
-                rows,
-                later: later_of(side),
-                between,
+                place: place_out(said.place),
+                area: area_out(said.place),
+                rows: said.rows,
+                later: later_of(said.side),
+                between: said.between,
                 start: span.start,
                 length: span.length,
             }
         }
-        ViewAnswer::Refused(why) => YkView {
+        Err(why) => YkView {
             question: question(why),
-            place: 0,
-            area: 0,
-            rows: 0,
-            later: 0,
-            between: 0,
-            start: 0,
-            length: 0,
+            ..YkView::default()
         },
     }
 }

@@ -1,1 +1,2 @@
 pub mod Paged
+pub mod Lent

@@ -1,2 +1,2 @@
 pub mod Listings
-pub mod Rooms
+pub mod Statuses

@@ -1,30 +1,16 @@
 // Standard input.
-ghost use Rattle.std.specs.Prelude.{◌≡◌};
+use std::io;
+use std::io::Read;
 
-use std::io::{Eprint, Read};
-
-// Could not read.
-pub const UNREAD: u8 = 2;
-
-// Reads until the log is full, and leaves what is past that, or the input ends; false where a read fails.
-pub fn read_log<I: Read>(input: &mut I, log: &mut [u8]) -> bool {
+// Reads until the log is full, and leaves what is past that, or the input ends.
+pub fn read_log<I: Read>(input: &mut I, log: &mut [u8]) -> io::Result<()> {
     let mut done = 0;
     while done < log.len() {
-        let Ok(n) = input.read(&mut log[done..]) else {
-            return false;
-        };
+        let n = input.read(&mut log[done..])?;
         if n == 0 {
-            return true;
+            break;
         }
         done += n;
     }
-    true
-}
-
-// Says that a read failed, and answers the status.
-pub fn fail<R: Eprint>(rt: &R) -> u8
-    ensures { result ≡ 2 }
-{
-    let _ = rt.eprintln("listing: cannot read standard input");
-    UNREAD
+    Ok(())
 }

@@ -1,18 +1,19 @@
 -- The promises of position, table and view, from the answers to the questions and what the code says on any memory: one law
 -- for each return. Assumes nothing.
-use Prim.Native.Nat.{ℕ, ◌-◌, ◌*◌, ◌≤◌, ◌<◌, min}
+use Prim.Native.Nat.{ℕ, ◌*◌, ◌≤◌, ◌<◌, min}
 use mathlib.Core.Path.{◌≡◌, refl, sym, ap, ◌∙◌}
 use mathlib.Core.Logic.{◌⊎◌}
-use mathlib.Core.List.{List, [], ◌∷◌}
+use mathlib.Core.List.{List, [], ◌∷◌, ◌++◌}
 use mathlib.Core.Bool.{true, false}
 use native.Mathlib.Omega.{arith}
-use lib.ListN.{length, take}
+use lib.ListN.{length, take, drop}
 use lib.Dec.{leb}
 use borrow.Author.Tests.{le-leb, lt-leb}
-use borrow.Rule.Slice.PartMut.{put_mid}
 use Rattle.model.specs.declared.Numbers.{Numbers}
 use Rattle.model.specs.declared.Position.{Position}
-use Rattle.model.specs.Answers.{refuses, answers, question, first_no, TableSaid, OutsetSaid}
+use Rattle.model.specs.declared.TableSaid.{TableSaid}
+use Rattle.model.specs.declared.OutsetSaid.{OutsetSaid}
+use Rattle.model.specs.Answers.{refuses, answers, question, first_no}
 use Rattle.model.specs.Memory.{State, sound, standing}
 use Rattle.model.specs.Outset.{outset_for}
 use Rattle.model.specs.Queries.{answered_time, position_of, table_questions, table_of, view_of, rows_part}
@@ -26,7 +27,6 @@ use Rattle.catalogue.specs.Candidates.{candidates_in}
 use Rattle.catalogue.proofs.CandidateLaws.{candidates_answered}
 use Rattle.limits.specs.Fit.{Fit}
 use Rattle.outsets.specs.declared.Used.{Used}
-use Rattle.tables.specs.declared.Worked.{Worked}
 use Rattle.tables.specs.Parts.{lent}
 use Rattle.outsets.specs.Used.{NearestIs}
 use Rattle.tables.specs.Ways.{Ready, WorkedOut}
@@ -54,6 +54,10 @@ module _ (st : State) (t : ℕ) where
   pub candidates_at : (c : Candidates) (at : ℕ) → at ≡ answered_time st.numbers.last t → c ≡ candidates_in st.numbers t st.memory.catalogue
       → c ≡ candidates_in st.numbers at st.memory.catalogue
   candidates_at c at e is = is ∙ rw e (sym (candidates_answered st.numbers t st.memory.catalogue))
+
+-- candidates of a catalogue say how many entries it has
+pub lent_is : {c d : Candidates} → c ≡ d → d.lent ≡ c.lent
+lent_is e = sym (ap (λ (x : Candidates). x.lent) e)
 
 -- ---- what question 1 tells
 
@@ -99,10 +103,10 @@ module _ (st : State) (t : ℕ) (out : List ℕ) where
       }
 
   -- the part lent, of 8 × R bytes, came back as the bytes ys
-  pub table_answers : (c : Candidates) (w : Worked) (at : ℕ) {ys : List ℕ} → sound st ≡ true → at ≡ answered_time st.numbers.last t → 8 * st.numbers.limit ≤ length out → length ys ≡ 8 * st.numbers.limit
+  pub table_answers : (c : Candidates) (w : TableSaid) (at : ℕ) {ys : List ℕ} → sound st ≡ true → at ≡ answered_time st.numbers.last t → 8 * st.numbers.limit ≤ length out → length ys ≡ 8 * st.numbers.limit
       → c ≡ candidates_in st.numbers t st.memory.catalogue → w.rows ≤ st.numbers.limit
       → WorkedOut st.numbers st.memory.log st.memory.index st.memory.table st.memory.areas c at w ys
-      → TablePromise st t out (answers (record { rows = w.rows; side = w.side; between = w.between })) (put_mid 0 (8 * st.numbers.limit - 0) out ys)
+      → TablePromise st t out (answers w) (ys ++ drop (8 * st.numbers.limit) out)
   unfolding table_of first_no is_refused IfAnswered
   table_answers c w at {ys} q e room l has few worked =
       let size = 8 * st.numbers.limit in

@@ -16,7 +16,10 @@ use Rattle.model.specs.Tree.{tree_of, nodes_of, index_words, with_tree, without_
 use Rattle.tree.specs.Append.{append_of}
 use Rattle.tree.specs.Places.{place_of, Laid, Placed, with_tree_at, without_nodes_at, extents_of, ExtentsFit, gathered, nodes_in, stretch_of, Seen, StretchFrame}
 use Rattle.tree.proofs.Packings.{tree_length}
-use Rattle.tree.proofs.PlaceLaws.{place_stretch, laid_stretch, laid_extents}
+use Rattle.tree.specs.declared.Extents.{Extents}
+use Rattle.tree.specs.Extents.{ReachedIn, SeenIn, stretch_in}
+use Rattle.tree.specs.Levels.{Room, Stretch}
+use Rattle.tree.proofs.PlaceLaws.{place_stretch, laid_stretch, laid_extents, room_stretch}
 use Rattle.tree.proofs.WrittenAt as placed
 use Rattle.tree.proofs.Written as flat
 use Rattle.tree.proofs.FillingsAt.{placed_fewer, append-keeps}
@@ -48,6 +51,17 @@ flat_without d starts n index = refl
 -- one stretch is seen as it is
 pub seen_stretch : (d : ℕ) (starts : List ℕ) (len : ℕ) → Seen d 0 starts len len
 seen_stretch d starts len = record { whole = λ z. refl; low = λ p. absurd (omega arith); exact = λ p. absurd (omega arith); laid = λ p. absurd (omega arith) }
+
+-- the same of what a call is given
+module _ (d : ℕ) (x : Extents) (none : x.nodes ≡ 0) where
+  pub one_seen : (len : ℕ) → x.words ≡ len → SeenIn d x len
+  one_seen len whole = rw (none, whole) (seen_stretch d x.starts.now len)
+
+  pub one_is : (index : List ℕ) → stretch_in d x index ≡ index
+  one_is index = stretch-none d x.nodes x.starts.now x.words index none
+
+  pub one_room : {k len : ℕ} → Stretch d k len → Room d k (ReachedIn d x len)
+  one_room h = rw none (room_stretch h x.starts.now)
 
 -- extents that are listed, inside the index and apart from one another are seen as one stretch of the nodes in use
 pub seen_extents : (d e n len : ℕ) (starts : List ℕ) → 2 ≤ d → 0 < e → ExtentsFit (node_word d e) starts (extents_of e n) len → Seen d e starts (node_word d n) len

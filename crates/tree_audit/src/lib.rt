@@ -6,11 +6,13 @@ ghost use Rattle.std.specs.Prelude.{◌≡◌, ◌+◌, ◌-◌, ◌*◌, ◌≤
 ghost use Rattle.codec.specs.Parts.{same};
 ghost use Rattle.model.specs.Records.{records};
 ghost use Rattle.model.specs.Pages.{page_times};
-ghost use Rattle.tree.specs.Places.{place_of, with_tree_at};
+ghost use Rattle.tree.specs.Places.{with_tree_at};
+ghost use Rattle.tree.specs.Extents.{place_in};
 ghost use Rattle.tree_audit.specs.Times.{Decides, time_in, TimesAt, Readable};
 ghost use Rattle.tree_audit.specs.Stands.{span_of, Auditable, Openable};
 
 use model::NodeNumber;
+use tree::Extents;
 
 // The time of record k, or zero from record `stop` on.
 fn time_in(b: &[u8], stop: usize, k: usize) -> u64
@@ -36,14 +38,10 @@ fn holds_times(
     requires { Readable (length b.now) (length words.now) at w first step stop }
     ensures { Decides result (TimesAt b.now first step stop words.now at w) }
 {
-    let mut i = 0;
-    let mut k = first;
-    while i < w {
-        if words[at + i] != time_in(b, stop, k) {
+    for (i, word) in words[at..at + w].iter().enumerate() {
+        if *word != time_in(b, stop, first + i * step) {
             return false;
         }
-        i += 1;
-        k += step;
     }
     true
 }
@@ -98,17 +96,9 @@ fn past_opened(node: u32, span: usize) -> u32
 }
 
 // Whether the words are those of the packed tree over the page times of the n records b.
-pub fn holds_tree(
-    b: &[u8],
-    n: u32,
-    order: u16,
-    page: u16,
-    words: &[u64],
-    extent: u32,
-    starts: &[u64],
-) -> bool
-    requires { Auditable order page n (length b.now) extent starts.now (length words.now) }
-    ensures { result ≡ same (with_tree_at (place_of order extent starts.now) order (page_times page (records b.now n)) words.now) words.now }
+pub fn holds_tree(b: &[u8], n: u32, order: u16, page: u16, words: &[u64], x: Extents) -> bool
+    requires { Auditable order page n (length b.now) x.nodes x.starts.now (length words.now) }
+    ensures { result ≡ same (with_tree_at (place_in order x.entry) order (page_times page (records b.now n)) words.now) words.now }
 {
     let w = (order as usize) - 1;
     let size = page as usize;
@@ -116,15 +106,16 @@ pub fn holds_tree(
     let mut m: u32 = 0;
     let mut node: u32 = 0;
     let mut first: usize = 0;
+    // A `while`: leaf, node and record go on together, each by steps of its own.
     while first < stop {
         let span = span_of(order as u32, m) as usize;
-        let at = tree::node_word(extent, starts, order as u32, NodeNumber(node));
-        if holds_opened(b, words, at, w, size, stop, first, span) {} else {
+        let at = tree::node_word(x, order as u32, NodeNumber(node));
+        if !holds_opened(b, words, at, w, size, stop, first, span) {
             return false;
         }
         let leaf = past_opened(node, span);
-        let place = tree::node_word(extent, starts, order as u32, NodeNumber(leaf));
-        if holds_times(b, words, place, w, first, size, stop) {} else {
+        let place = tree::node_word(x, order as u32, NodeNumber(leaf));
+        if !holds_times(b, words, place, w, first, size, stop) {
             return false;
         }
         node = leaf + 1;

@@ -9,7 +9,7 @@ ghost use Rattle.tree.specs.Levels.{Stretch};
 use descent::keys_up_to;
 use std::io;
 use std::io::Print;
-use tree::{append, index_words};
+use tree::{Extents, append, index_words};
 
 // The leaf that opened the node of a separator, and the word of that node.
 #[derive(Clone, Copy)]
@@ -29,13 +29,11 @@ fn key(i: usize) -> u64
 
 // One more where two words differ.
 fn tally(wrong: u64, a: u64, b: u64) -> u64 {
-    if a == b {
-        return wrong;
+    if a != b && wrong < 1000000 {
+        wrong + 1
+    } else {
+        wrong
     }
-    if wrong < 1000000 {
-        return wrong + 1;
-    }
-    wrong
 }
 
 // The word of a node, or 0 past the end.
@@ -45,11 +43,7 @@ fn word(index: &[u64], d: usize, node: usize, i: usize) -> u64
     requires node_bound { node ≤ 131072 }
     requires i_bound { i ≤ 65536 }
 {
-    let at = node * (d - 1) + i;
-    if at < index.len() {
-        return index[at];
-    }
-    0
+    index.get(node * (d - 1) + i).copied().unwrap_or(0)
 }
 
 // How often d divides m.
@@ -59,8 +53,9 @@ fn level(d: usize, m: usize) -> usize
 {
     let mut left = m;
     let mut v = 0;
+    // A `while`, here and in `opens`: it divides and does not count.
     while left % d == 0 {
-        left = left / d;
+        left /= d;
         v += 1;
     }
     v
@@ -73,7 +68,7 @@ fn opens(d: usize, m: usize) -> bool
 {
     let mut left = m;
     while left % d == 0 {
-        left = left / d;
+        left /= d;
     }
     left % d == 1
 }
@@ -86,9 +81,7 @@ fn number(d: usize, m: usize) -> usize
     ensures upper_bound { result ≤ 131072 }
 {
     let mut n = m;
-    let mut j = 0;
-    while j < m {
-        j += 1;
+    for j in 1..m + 1 {
         if opens(d, j) {
             n += 1;
         }
@@ -101,10 +94,7 @@ fn hosts(d: usize, m: usize, v: usize) -> bool
     requires le_d { 2 ≤ d }
     requires m_nonzero { 0 < m }
 {
-    if level(d, m) == v {
-        return opens(d, m);
-    }
-    false
+    level(d, m) == v && opens(d, m)
 }
 
 // 1 where the separator of leaf m is on level 1 + v.
@@ -113,10 +103,7 @@ fn on_level(d: usize, m: usize, v: usize) -> usize
     requires m_nonzero { 0 < m }
     ensures { result ≤ 1 }
 {
-    if level(d, m) == v {
-        return 1;
-    }
-    0
+    usize::from(level(d, m) == v)
 }
 
 // Where the separator of leaf m stands: in the last node of its level that was opened, after those since.
@@ -129,22 +116,14 @@ fn place_of(d: usize, m: usize) -> Place
     ensures slot_bound { result.slot ≤ 65536 }
 {
     let v = level(d, m);
-    let mut j = m;
     let mut slot = 0;
-    while 1 < j {
+    for j in (2..m + 1).rev() {
         if hosts(d, j, v) {
-            return Place {
-                host: j,
-                slot: slot,
-            };
+            return Place { host: j, slot };
         }
         slot += on_level(d, j, v);
-        j -= 1;
     }
-    Place {
-        host: j,
-        slot: slot,
-    }
+    Place { host: 1, slot }
 }
 
 // The wrong words among those of key i: its own, and the separator before it.
@@ -156,10 +135,7 @@ fn wrong_key(index: &[u64], d: usize, i: usize, wrong: u64) -> u64
     let m = i / (d - 1);
     let at = i % (d - 1);
     let so_far = tally(wrong, word(index, d, number(d, m), at), key(i));
-    if at != 0 {
-        return so_far;
-    }
-    if m == 0 {
+    if at != 0 || m == 0 {
         return so_far;
     }
     let p = place_of(d, m);
@@ -175,27 +151,16 @@ fn wrong_words(index: &[u64], d: usize, k: usize) -> u64
     requires d_bound { d ≤ 64 }
     requires k_bound { k ≤ 65536 }
 {
-    let mut wrong: u64 = 0;
-    let mut i = 0;
-    while i < k {
+    let mut wrong = 0;
+    for i in 0..k {
         wrong = wrong_key(index, d, i, wrong);
-        i += 1;
     }
     wrong
 }
 
 // How many words are v.
 fn count_of(index: &[u64], v: u64) -> u64 {
-    let mut n: u64 = 0;
-    let mut i = 0;
-    while i < index.len() {
-        let w = index[i];
-        i += 1;
-        if w == v {
-            n += 1;
-        }
-    }
-    n
+    index.iter().filter(|w| **w == v).count() as u64
 }
 
 // How many of the k keys are at most t.
@@ -203,12 +168,9 @@ fn count_up_to(k: usize, t: u64) -> u64
     requires { k ≤ 65536 }
     ensures { result ≤ 65536 }
 {
-    let mut n: u64 = 0;
-    let mut i = 0;
-    while i < k {
-        let w = key(i);
-        i += 1;
-        if w <= t {
+    let mut n = 0;
+    for i in 0..k {
+        if key(i) <= t {
             n += 1;
         }
     }
@@ -218,22 +180,19 @@ fn count_up_to(k: usize, t: u64) -> u64
 fn wrong_count(index: &[u64], d: usize, k: usize, t: u64, wrong: u64) -> u64
     requires { Stretch d k (length index.now) }
 {
-    let none = [0u64; 1];
-    let found = keys_up_to(index, 0, &none, d, k, t);
+    let found = keys_up_to(index, Extents::one_stretch(index.len()), d, k, t);
     tally(wrong, found as u64, count_up_to(k, t))
 }
 
 fn wrong_counts(index: &[u64], d: usize, k: usize) -> u64
     requires { Stretch d k (length index.now) }
 {
-    let mut wrong: u64 = 0;
-    let mut i = 0;
-    while i < k {
+    let mut wrong = 0;
+    for i in 0..k {
         let t = key(i);
         wrong = wrong_count(index, d, k, t - 1, wrong);
         wrong = wrong_count(index, d, k, t, wrong);
         wrong = wrong_count(index, d, k, t + 1, wrong);
-        i += 1;
     }
     wrong
 }
@@ -241,11 +200,9 @@ fn wrong_counts(index: &[u64], d: usize, k: usize) -> u64
 fn build(index: &mut [u64], d: usize, k: usize)
     requires { Stretch d k (length index.old) }
 {
-    let mut i = 0;
-    while i < k {
-        let none = [0u64; 1];
-        append(index, 0, &none, d, i, key(i));
-        i += 1;
+    let x = Extents::one_stretch(index.len());
+    for i in 0..k {
+        append(index, x, d, i, key(i));
     }
 }
 
@@ -262,10 +219,7 @@ fn wrong_rest(index: &[u64], d: usize, k: usize, words: usize) -> u64
     requires words_bound { words ≤ 10000000 }
 {
     let used = k + (k - 1) / (d - 1);
-    if words < used {
-        return 1;
-    }
-    if index.len() < words {
+    if words < used || index.len() < words {
         return 1;
     }
     let zeros = tally(0, count_of(index, 0), (words - used) as u64);
@@ -289,21 +243,15 @@ fn report<R: Print>(rt: &R, d: usize) -> io::Result<()>
     let rest = wrong_rest(&index, d, 2500, words);
     let keys = wrong_words(&index, d, 2500);
     let counts = wrong_counts(&index, d, 2500);
-    if rest < 1000000 {
-        if keys < 1000000 {
-            if counts < 1000000 {
-                return print_line(rt, d as u64, rest + keys + counts);
-            }
-        }
+    if rest < 1000000 && keys < 1000000 && counts < 1000000 {
+        return print_line(rt, d as u64, rest + keys + counts);
     }
     Ok(())
 }
 
 fn main(rt: HostRuntime) -> io::Result<()> {
-    let mut d = 2;
-    while d <= 64 {
+    for d in 2..65 {
         report(&rt, d)?;
-        d += 1;
     }
     Ok(())
 }

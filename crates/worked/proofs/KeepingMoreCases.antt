@@ -13,7 +13,9 @@ use Rattle.model.specs.declared.Side.{Side}
 use Rattle.model.specs.declared.Side.TheVariants.{Earlier, Later}
 use Rattle.model.specs.declared.Place.{Place}
 use Rattle.model.specs.declared.Place.TheVariants.{Area, Current}
-use Rattle.model.specs.Answers.{Outcome, answers, TableSaid, OutsetSaid}
+use Rattle.model.specs.declared.TableSaid.{TableSaid}
+use Rattle.model.specs.declared.OutsetSaid.{OutsetSaid}
+use Rattle.model.specs.Answers.{Outcome, answers}
 use Rattle.model.specs.Memory.{State, state}
 use Rattle.model.specs.Queries.{table_of, view_of}
 use Rattle.model.specs.Audit.{audit_of}

@@ -11,7 +11,8 @@ use Rattle.model.specs.declared.Side.{Side}
 use Rattle.model.specs.declared.Side.TheVariants.{Earlier, Later}
 use Rattle.model.specs.declared.Place.{Place}
 use Rattle.model.specs.declared.Place.TheVariants.{Empty, Area, Current}
-use Rattle.model.specs.Answers.{Outcome, answers, OutsetSaid}
+use Rattle.model.specs.declared.OutsetSaid.{OutsetSaid}
+use Rattle.model.specs.Answers.{Outcome, answers}
 use Rattle.model.specs.Records.{Rec, insertion, deletion, records_bytes, header_bytes}
 use Rattle.model.specs.Memory.{State}
 use Rattle.model.specs.Positions.{position_at}

@@ -14,7 +14,8 @@ use Rattle.model.specs.declared.Side.TheVariants.{Earlier, Later}
 use Rattle.model.specs.declared.Place.{Place}
 use Rattle.model.specs.declared.Place.TheVariants.{Area}
 use Rattle.worked.proofs.Computing.{computing}
-use Rattle.model.specs.Answers.{Outcome, answers, TableSaid}
+use Rattle.model.specs.declared.TableSaid.{TableSaid}
+use Rattle.model.specs.Answers.{Outcome, answers}
 use Rattle.model.specs.Records.{Rec, insertion, deletion, records_bytes, header_bytes}
 use Rattle.model.specs.Memory.{Memory, State, state}
 use Rattle.model.specs.Outset.{between, measure, earlier_for, later_for}

@@ -1,11 +1,10 @@
-use lib.ListN.{length-set}
-use Rattle.codec.proofs.Moves.{moved_up_turn}
+-- `codec::move_up` meets its contract: a part written at another place. Assumes nothing.
+use mathlib.Core.Path.{◌∙◌}
+use Rattle.codec.proofs.Moves.{copied_up}
 use native.Mathlib.Omega.{arith}
 use Rattle.codec.proofs.move_up.Goals as goal
 
-pub loop-i-preserved : goal.loop-i-preserved
-loop-i-preserved c =
+pub returns : goal.returns
+returns c =
     let a = c.args in
-    let l = c.loop-i in
-    let turn = moved_up_turn a.s.now l.i a.high a.by 0 (omega arith) (omega arith) (omega arith) l.invariant.1.1.1 in
-    (omega arith, (omega arith, (simp length-set (omega arith), turn)))
+    c.copy_within.ensures.after ∙ copied_up a.s.now a.low a.high a.by c.requires.low_le_high (omega arith)

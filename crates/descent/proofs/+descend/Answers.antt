@@ -18,12 +18,6 @@ in_node-j-requires t c = down_node (raised (omega arith) c.requires)
 pub child_node-child-requires : goal.child_node-child-requires
 child_node-child-requires t c = omega (arith, child_small (raised (omega arith) c.requires) c.in_node-j.ensures.upto)
 
-pub overflow_mul-past : goal.overflow_mul-past
-overflow_mul-past t c = omega (arith, child_inside (raised (omega arith) c.requires) c.in_node-j.ensures.upto)
-
-pub overflow_sub-r : goal.overflow_sub-r
-overflow_sub-r t c = omega (arith, child_inside (raised (omega arith) c.requires) c.in_node-j.ensures.upto)
-
 pub overflow_sub-under : goal.overflow_sub-under
 overflow_sub-under t c = under_low (raised (omega arith) c.requires)
 
@@ -35,10 +29,10 @@ overflow_add-a t c =
 pub descend-requires : goal.descend-requires
 descend-requires t c =
     let down = raised (omega arith) c.requires in
-    (omega arith, rw c.least32-left.ensures (down_child down c.in_node-j.ensures.upto c.child_node-child.ensures c.unit_below-next.ensures))
+    (omega arith, rw c.min-left.ensures (down_child down c.in_node-j.ensures.upto c.child_node-child.ensures c.unit_below-next.ensures))
 
 pub returns : goal.returns
 returns t c =
     let a = c.args in
     let down = raised (omega arith) c.requires in
-    found_child down _ c.in_node-j.ensures (rw c.least32-left.ensures at c.descend.ensures)
+    found_child down _ c.in_node-j.ensures (rw c.min-left.ensures at c.descend.ensures)

@@ -14,4 +14,4 @@ returns c =
     let e : c.staying-x.result ≡ staying_of (Of a.t) (used_in a.s ys) (length ys) = rw c.of_time.ensures at c.staying-x.ensures.is in
     let few = c.drop-r.ensures.few in
     let says = says_used (Of a.t) a.s ys c.drop-r.result.over e few.0 (rw e at few.1.0) few.1.1 in
-    rw (c.dropped_change.ensures, c.remove.ensures (Of a.t) says) (c.drop-r.ensures.kept ys e)
+    rw (c.remove.ensures (Of a.t) says) (c.drop-r.ensures.kept ys e)

@@ -14,4 +14,4 @@ returns c =
     let e : c.staying-x.result ≡ staying_of (Marked a.mark) (used_in a.s ys) (length ys) = rw c.of_mark.ensures at c.staying-x.ensures.is in
     let few = c.drop_marked-r.ensures.few in
     let says = says_used (Marked a.mark) a.s ys c.drop_marked-r.result.over e few.0 (rw e at few.1.0) few.1.1 in
-    rw (c.cleared_answer.ensures, c.remove.ensures (Marked a.mark) says) (c.drop_marked-r.ensures.kept ys e)
+    rw (c.remove.ensures (Marked a.mark) says) (c.drop_marked-r.ensures.kept ys e)

@@ -1,19 +1,22 @@
--- `numbered::keep` meets its contract. Assumes nothing.
+-- `numbered::keep` meets its contract: the index is seen as one stretch. Assumes nothing.
 use mathlib.Core.Path.{refl}
-use Rattle.tree.specs.Places.{stretch_of}
 use Rattle.numbered.proofs.keep.Goals as goal
 
+pub keep-requires : goal.keep-requires
+keep-requires c = rw c.in_one_stretch-l.ensures.numbers c.requires
+
 pub returns : goal.returns
-unfolding stretch_of
 returns c =
-    let k = c.keep-r.ensures in
-    record {
-      low = rw c.keep_out.ensures (k.low);
-      high = rw c.keep_out.ensures (k.high);
-      kept = rw c.keep_out.ensures (λ catalogue e place. record {
-        numbers = c.keep-r.result.numbers;
-        verdict = c.keep-r.result.verdict;
+    let l = c.in_one_stretch-l.ensures in
+    let k = rw (l.index, l.log, l.current, l.numbers) at c.keep.ensures in
+    rw c.into.ensures
+    (record {
+      low = k.low;
+      high = k.high;
+      kept = λ catalogue e place. record {
+        numbers = c.keep.result.numbers;
+        verdict = c.keep.result.verdict;
         is = refl;
         kept = k.promised catalogue e place;
-      });
-    }
+      };
+    })

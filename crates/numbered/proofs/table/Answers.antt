@@ -1,7 +1,11 @@
--- `numbered::table` meets its contract. Assumes nothing.
-use Rattle.tree.specs.Places.{stretch_of}
+-- `numbered::table` meets its contract: the index is seen as one stretch. Assumes nothing.
 use Rattle.numbered.proofs.table.Goals as goal
 
 pub returns : goal.returns
-unfolding stretch_of
-returns c catalogue e = record { answer = c.table-r.result; is = c.table_out.ensures; kept = c.table-r.ensures catalogue e }
+returns c catalogue e =
+    let l = c.in_one_stretch-l.ensures in
+    record {
+      answer = c.table.result;
+      is = c.into.ensures;
+      kept = rw (l.index, l.log, l.current, l.numbers) at (c.table.ensures catalogue (rw l.numbers e));
+    }

@@ -1,7 +1,11 @@
--- `numbered::units` meets its contract. Assumes nothing.
-use Rattle.tree.specs.Places.{stretch_of}
+-- `numbered::units` meets its contract: the index is seen as one stretch. Assumes nothing.
 use Rattle.numbered.proofs.units.Goals as goal
 
 pub returns : goal.returns
-unfolding stretch_of
-returns c catalogue e = record { answer = c.at-r.result; is = c.units_out.ensures; kept = c.at-r.ensures catalogue e }
+returns c catalogue e =
+    let l = c.in_one_stretch-l.ensures in
+    record {
+      answer = c.at.result;
+      is = c.into.ensures;
+      kept = rw (l.index, l.log, l.current, l.numbers) at (c.at.ensures catalogue (rw l.numbers e));
+    }

@@ -3,7 +3,7 @@ use Prim.Native.Nat.{◌-◌, ◌%◌}
 use native.Mathlib.Nat.{le_refl, mod-lt}
 use borrow.Author.Tests.{eq-eqb, ne_eqb}
 use Rattle.tree.specs.Append.{append_of}
-use Rattle.tree.proofs.Rooms.{needed_next, leaf_small, node_reach, node_inside}
+use Rattle.tree.proofs.Rooms.{needed_next, node_reach, node_inside}
 use Rattle.tree.proofs.PlaceLaws.{reached_wide}
 use native.Mathlib.Omega.{arith}
 use Rattle.tree.proofs.append.Goals as goal
@@ -19,11 +19,9 @@ returns-then-i-eq0 c =
     let a = c.args in
     rw (eq-eqb (a.k % (a.d - 1)) 0 (omega arith)) c.put_leaf.ensures
 
-pub node_word-requires : goal.node_word-requires
-node_word-requires c =
-    let a = c.args in
-    let h = needed_next a.d a.k _ _ c.requires c.leaf_node-leaf.ensures.result_value in
-    record { le_d = c.requires.order_low; d_bound = c.requires.order_high; node_bound = omega (arith, leaf_small _ _ _ _ h); reached = reached_wide (node_reach _ _ _ _ h (le_refl _)) (omega arith) }
+pub node_word-requires-clause-reached : goal.node_word-requires-clause-reached
+node_word-requires-clause-reached c =
+    reached_wide (node_reach _ _ _ _ (needed_next c.args.d c.args.k _ _ c.requires c.leaf_node-leaf.ensures.result_value) (le_refl _)) (omega arith)
 
 pub bounds-index-node_word : goal.bounds-index-node_word
 bounds-index-node_word c =

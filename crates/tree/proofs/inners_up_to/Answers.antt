@@ -7,13 +7,13 @@ pub overflow_add-sum-in-loop-left : goal.overflow_add-sum-in-loop-left
 overflow_add-sum-in-loop-left c =
     let a = c.args in
     let lp = c.loop-left in
-    omega (arith, inners_level a.d (omega arith) lp.left, inners_le a.d (omega arith) a.m, c.least32.ensures)
+    omega (arith, inners_level a.d (omega arith) lp.left, inners_le a.d (omega arith) a.m, c.min.ensures)
 
 pub loop-left-preserved : goal.loop-left-preserved
 loop-left-preserved c =
     let a = c.args in
     let lp = c.loop-left in
-    (omega (arith, div-le_self lp.left a.d), omega (arith, inners_level a.d (omega arith) lp.left, c.least32.ensures))
+    (omega (arith, div-le_self lp.left a.d), omega (arith, inners_level a.d (omega arith) lp.left, c.min.ensures))
 
 pub returns : goal.returns
 returns c =

@@ -3,8 +3,7 @@ use native.Mathlib.Omega.{arith}
 use Rattle.tree.proofs.Numbers.{leaf_closed}
 use Rattle.tree.proofs.leaf_node.Goals as goal
 
-pub returns : goal.returns
-returns c =
+pub returns-clause-result_value : goal.returns-clause-result_value
+returns-clause-result_value c =
     let a = c.args in
-    let e = leaf_closed a.d (omega arith) a.m in
-    record { result_value = omega (arith, e); result_bound = omega (arith, e) }
+    omega (arith, leaf_closed a.d (omega arith) a.m)

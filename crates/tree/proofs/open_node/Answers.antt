@@ -11,7 +11,7 @@ use Rattle.model.specs.Shape.{opens, padded}
 use Rattle.model.specs.Numbering.{leaf_node, inner_node}
 use Rattle.tree.proofs.Rooms.{leaf_small, leaf_some, leaf_two, two-before, node_reach, node_inside, node_room, put_node, separator-own}
 use Rattle.tree.proofs.PlaceLaws.{reached_wide}
-use Rattle.tree.specs.Places.{place_of}
+use Rattle.tree.specs.Extents.{place_in}
 use native.Mathlib.Omega.{arith}
 use Rattle.tree.proofs.open_node.Goals as goal
 
@@ -20,15 +20,10 @@ overflow_sub-leaf c =
     let a = c.args in
     omega (arith, leaf_two a.d _ a.m a.leaf.0 c.requires.needed c.requires.m_nonzero c.requires.d_value)
 
-pub node_word-requires : goal.node_word-requires
-node_word-requires c =
+pub last_key-s-requires : goal.last_key-s-requires
+last_key-s-requires c =
     let a = c.args in
-    record { le_d = c.requires.needed.order_low; d_bound = c.requires.needed.order_high; node_bound = omega (arith, leaf_small a.d _ a.m a.leaf.0 c.requires.needed); reached = reached_wide (node_reach a.d _ a.m a.leaf.0 c.requires.needed (omega arith)) (omega arith) }
-
-pub bounds-index-node_word : goal.bounds-index-node_word
-bounds-index-node_word c =
-    let a = c.args in
-    omega (arith, c.requires.needed.order_low, node_inside c.requires.needed c.node_word.ensures.value (omega arith))
+    record { le_d = c.requires.needed.order_low; d_bound = c.requires.needed.order_high; leaf_bound = omega (arith, leaf_small a.d _ a.m a.leaf.0 c.requires.needed); reached = node_reach a.d _ a.m a.leaf.0 c.requires.needed (omega arith) }
 
 pub overflow_sub-leaf-2 : goal.overflow_sub-leaf-2
 overflow_sub-leaf-2 c =
@@ -59,13 +54,11 @@ pub returns : goal.returns
 unfolding opens
 returns c =
     let a = c.args in
-    let w1 = c.node_word in
-    let w2 = c.node_word-at in
+    let w = c.node_word-at in
     let xs = a.index.now in
-    let at = place_of a.d a.extent a.starts.now in
-    let s : ℕ = get_or xs (w1.result + (a.d - 2)) 0 in
+    let at = place_in a.d a.x in
     let o : opens a.d a.m ≡ true = eq-eqb _ 1 c.requires.d_value in
-    let e : w2.result ≡ at (inner_node a.d a.m) = w2.ensures.value ∙ ap (λ (n : ℕ). at (n - 1)) c.requires.needed.number in
-    let f : w1.result ≡ at (leaf_node a.d (a.m - 1)) = w1.ensures.value ∙ ap at (two-before a.d _ a.m a.leaf.0 c.requires.needed c.requires.m_nonzero c.requires.d_value) in
-    put_node w2.result (a.d - 1) s xs (omega (arith, c.requires.needed.order_low)) (node_inside c.requires.needed w2.ensures.value (omega arith)) c.new_node.ensures
-    ∙ ap₂ (λ (x y : ℕ). put xs x (padded (a.d - 1) (get_or xs (y + (a.d - 2)) 0 ∷ []))) e f ∙ sym (separator-own at a.d a.m xs _ c.requires.m_nonzero o)
+    let e : w.result ≡ at (inner_node a.d a.m) = w.ensures.value ∙ ap (λ (n : ℕ). at (n - 1)) c.requires.needed.number in
+    let f : c.last_key-s.result ≡ get_or xs (at (leaf_node a.d (a.m - 1)) + (a.d - 2)) 0 = c.last_key-s.ensures ∙ ap (λ (n : ℕ). get_or xs (at n + (a.d - 2)) 0) (two-before a.d _ a.m a.leaf.0 c.requires.needed c.requires.m_nonzero c.requires.d_value) in
+    put_node w.result (a.d - 1) c.last_key-s.result xs (omega (arith, c.requires.needed.order_low)) (node_inside c.requires.needed w.ensures.value (omega arith)) c.new_node.ensures
+    ∙ ap₂ (λ (x y : ℕ). put xs x (padded (a.d - 1) (y ∷ []))) e f ∙ sym (separator-own at a.d a.m xs _ c.requires.m_nonzero o)

@@ -1,17 +1,21 @@
-use mathlib.Core.Path.{◌≡◌, sym, ap, ◌∙◌}
+use Prim.Native.Nat.{ℕ, ◌+◌, ◌-◌, ◌<◌}
+use mathlib.Core.Path.{◌≡◌, sym, ◌∙◌}
 use native.Mathlib.Omega.{arith}
-use Rattle.tree_audit.specs.Times.{Decides, time_in}
+use lib.ListN.{drop, length-take, length-drop}
+use Rattle.std.proofs.lemmas.List.{get_or-take, get_or-drop}
+use Rattle.tree_audit.specs.Times.{Decides}
 use Rattle.tree_audit.proofs.holds_times.Goals as goal
 
-pub returns-then-words-at : goal.returns-then-words-at
+pub returns-then-word-time_in : goal.returns-then-word-time_in
 unfolding Decides
-returns-then-words-at c =
+returns-then-word-time_in c =
     let a = c.args in
-    λ all. c.if-words-at.true (all c.loop-i.i (omega arith) ∙ sym (c.time_in.ensures ∙ ap (time_in a.b.now a.stop) c.loop-i.invariant.1.0))
+    let i = c.loop-i.i in
+    let within : i < a.w = omega (arith, length-take {A = ℕ}, length-drop {A = ℕ}) in
+    λ all. c.if-word-time_in.true (get_or-take (a.at + a.w - a.at) (drop a.at a.words.now) i 0 (omega arith) ∙ get_or-drop a.at a.words.now i 0 ∙ all i within ∙ sym c.time_in.ensures)
 
 pub returns : goal.returns
 unfolding Decides
 returns c =
-    let a = c.args in
-    let e : c.loop-i.i ≡ a.w = omega arith in
-    rw e at c.loop-i.invariant.1.1
+    let e : c.loop-i.i ≡ c.args.w = omega (arith, length-take {A = ℕ}, length-drop {A = ℕ}) in
+    rw e at c.loop-i.invariant

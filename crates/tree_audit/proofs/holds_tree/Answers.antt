@@ -22,12 +22,12 @@ holds_opened-requires c =
     let a = c.args in
     walked_openable a.order a.page a.n a.b.now a.words.now c.requires c.loop-first.invariant c.loop-first-test.true _ c.span_of-span.result c.node_word-at.ensures.value c.span_of-span.ensures.few
 
-pub returns-else-holds_opened : goal.returns-else-holds_opened
+pub returns-then-not-holds_opened : goal.returns-then-not-holds_opened
 unfolding Decides
-returns-else-holds_opened c =
+returns-then-not-holds_opened c =
     let a = c.args in
     tree_not_held a.order a.page a.n a.b.now a.words.now c.requires
-    (walked_not_opened a.order a.page a.n a.b.now a.words.now c.requires c.loop-first.invariant c.loop-first-test.true c.span_of-span.result c.span_of-span.ensures.is _ c.node_word-at.ensures.value (rw c.if-holds_opened.false at c.holds_opened.ensures))
+    (walked_not_opened a.order a.page a.n a.b.now a.words.now c.requires c.loop-first.invariant c.loop-first-test.true c.span_of-span.result c.span_of-span.ensures.is _ c.node_word-at.ensures.value (rw c.if-not-holds_opened.true at c.holds_opened.ensures))
 
 pub past_opened-leaf-requires : goal.past_opened-leaf-requires
 past_opened-leaf-requires c =
@@ -46,13 +46,13 @@ holds_times-requires c =
     let leaf = c.past_opened-leaf.ensures ∙ walked_leaf a.order a.page a.n a.b.now a.words.now c.requires c.loop-first.invariant c.loop-first-test.true c.span_of-span.result c.span_of-span.ensures.is in
     walked_readable a.order a.page a.n a.b.now a.words.now c.requires c.loop-first.invariant c.loop-first-test.true _ (rw leaf at c.node_word-place.ensures.value)
 
-pub returns-else-holds_times : goal.returns-else-holds_times
+pub returns-then-not-holds_times : goal.returns-then-not-holds_times
 unfolding Decides
-returns-else-holds_times c =
+returns-then-not-holds_times c =
     let a = c.args in
     let leaf = c.past_opened-leaf.ensures ∙ walked_leaf a.order a.page a.n a.b.now a.words.now c.requires c.loop-first.invariant c.loop-first-test.true c.span_of-span.result c.span_of-span.ensures.is in
     tree_not_held a.order a.page a.n a.b.now a.words.now c.requires
-    (walked_not_leaf a.order a.page a.n a.b.now a.words.now c.requires c.loop-first.invariant c.loop-first-test.true c.span_of-span.result c.span_of-span.ensures.is _ c.node_word-at.ensures.value _ _ leaf c.node_word-place.ensures.value (rw c.if-holds_times.false at c.holds_times.ensures))
+    (walked_not_leaf a.order a.page a.n a.b.now a.words.now c.requires c.loop-first.invariant c.loop-first-test.true c.span_of-span.result c.span_of-span.ensures.is _ c.node_word-at.ensures.value _ _ leaf c.node_word-place.ensures.value (rw c.if-not-holds_times.true at c.holds_times.ensures))
 
 pub overflow_add-node : goal.overflow_add-node
 overflow_add-node c =
@@ -66,7 +66,7 @@ loop-first-preserved c =
     let a = c.args in
     let leaf = c.past_opened-leaf.ensures ∙ walked_leaf a.order a.page a.n a.b.now a.words.now c.requires c.loop-first.invariant c.loop-first-test.true c.span_of-span.result c.span_of-span.ensures.is in
     walked_next a.order a.page a.n a.b.now a.words.now c.requires c.loop-first.invariant c.loop-first-test.true c.span_of-span.result c.span_of-span.ensures.is _ c.node_word-at.ensures.value _ _ leaf c.node_word-place.ensures.value
-    (rw c.if-holds_opened.true at c.holds_opened.ensures) (rw c.if-holds_times.true at c.holds_times.ensures)
+    (rw c.if-not-holds_opened.false at c.holds_opened.ensures) (rw c.if-not-holds_times.false at c.holds_times.ensures)
 
 pub returns : goal.returns
 returns c =

@@ -1,10 +1,6 @@
--- `tree_cases::place_of` meets its bounds and ends. Invariant: as many words as leaves seen, at most. Measure:
--- the leaves that are left. Assumes nothing.
-use Prim.Native.Nat.{◌+◌, ◌≤◌, ◌<◌}
+-- `tree_cases::place_of` meets its bounds. Invariant: as many words as leaves seen, at most. Assumes nothing.
+use Rattle.std.proofs.Common.{◌≤◌, ◌+◌}
 use Rattle.tree_cases.proofs.place_of.Given as goal
 
 abbrev pub invariant-loop-j : goal.invariant-loop-j
-invariant-loop-j l = (0 < l.j) × (l.j + l.slot ≤ l.m)
-
-abbrev pub decreases-loop-j : goal.decreases-loop-j
-decreases-loop-j l = l.j
+invariant-loop-j l = (1 ≤ l.j) × (l.slot + l.j ≤ l.m + 1)
