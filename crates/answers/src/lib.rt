@@ -10,7 +10,8 @@ use model::Refusal;
 #[derive(Clone, Copy)]
 pub struct Numbered(pub u8, pub u32);
 
-// The numbers of a refusal, 01's table. A function and no `From`: the numbered forms and the listing call it by what it gives.
+// The numbers of a refusal, 01's table. A function, for `From` would be no plainer: `question` would have to name the type that it takes
+// a field of.
 #[tactic(auto, unfolding(model::specs::Answers::refusal, model::specs::Promises::refused_number, crate::specs::Question::record_in))]
 pub fn number(why: Refusal) -> Numbered
     ensures { (result.0 ≡ number_of why) × (result.1 ≡ record_of why) }

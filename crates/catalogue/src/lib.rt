@@ -14,7 +14,8 @@ ghost use Rattle.catalogue.specs.Entries.{stays_when, flag_at};
 
 use model::{Entry, Held, Numbers, Place};
 
-// The catalogue by value: the first 16 entries, zero entries where fewer are lent, and how many are lent.
+// The catalogue by value: the first 16 entries, zero entries where fewer are lent, and how many are lent. An array
+// and no slice, as `by_value` of specs/, which the audit's promise is of.
 #[derive(Clone, Copy)]
 pub struct Catalogue {
     pub entries: [Entry; 16],
@@ -110,7 +111,7 @@ fn held_at(i: usize, e: Entry) -> Held
     }
 }
 
-// The later of two tables, of those at or before t.
+// The later of two tables, of those at or before t. Not one function with the next: other comparisons, and a tie goes the other way.
 fn later_one(best: Held, i: usize, e: Entry, t: u64) -> Held
     requires { i < 16 }
     ensures { result ≡ cond (leb e.time t && ltb best.time e.time) (held_at i e) best }

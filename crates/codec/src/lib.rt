@@ -6,8 +6,8 @@ ghost use Rattle.std.specs.Prelude.{◌≡◌, ◌+◌, ◌-◌, ◌≤◌, ◌<
 ghost use Rattle.codec.specs.LittleEndian.{number, bytes};
 ghost use Rattle.codec.specs.Parts.{zeros, put, moved_up, moved_down, same};
 
-// ---- numbers: a loop to read W bytes and one to write them. W is known where they are called, and the compiler makes one
-// load or store of each.
+// ---- numbers: a loop to read W bytes and one to write them, by place, as `number` and `put` go. W is known where they are called, and the
+// compiler makes one load or store of each. One call for a width, since what each answers or takes is of another type.
 
 fn read<const W: usize>(s: &[u8], at: usize) -> u64
     requires width { W ≤ 8 }
@@ -121,8 +121,8 @@ pub fn move_down(s: &mut [u8], at: usize, source: usize, k: usize)
     s.copy_within(source..source + k, at);
 }
 
-// The same by eight bytes, over the whole of s: the compiler makes memmove of it alone, which it does only
-// where the distance stands in the body and the slice holds nothing else.
+// The same by eight bytes, over the whole of s. `copy_within` goes element by element, and the compiler makes memmove of it only where
+// the distance stands in the body and the slice holds nothing else.
 
 // All bytes but the last eight go up by eight.
 pub fn up_eight(s: &mut [u8])

@@ -20,7 +20,8 @@ use catalogue::{Candidates, Staying};
 use model::{Entry, Numbers, Refusal};
 use pages::Lent;
 
-// The numbers then, whether the call was accepted, and the entry that goes to place `at`, those from there up to `end` going up.
+// The numbers then, whether the call was accepted, and the entry that goes to place `at`, those from there up to `end` going up. They
+// stand beside the verdict, since who is lent the entries does the same of a refusal: from 0 to 0 nothing goes up.
 #[derive(Clone, Copy)]
 pub struct Kept {
     pub numbers: Numbers,
@@ -84,7 +85,7 @@ fn ask_keep(l: Lent, c: Candidates, areas: usize, t: u64, mark: u32) -> Result<(
     Ok(())
 }
 
-// The file of time t with this mark, which no question forbids, to place `at`: its area, and the rows that are answered. Its
+// The file of time t, which no question forbids, to place `at`: its area, and the rows that are answered. Its
 // table is worked out first: the outset may lie in an area that is about to move.
 fn keep_file(l: Lent, c: Candidates, at: usize, areas: &mut [u8], t: u64) -> u32
     requires ready { ReadyLent l t (8 * l.numbers.limit) }

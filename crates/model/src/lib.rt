@@ -45,7 +45,8 @@ pub struct Numbers {
     pub files: u32,
 }
 
-// A record of the log, all six fields of it (01, "Log bytes").
+// A record of the log, all six fields of it (01, "Log bytes"). Its kind is a number, as the bytes are that anyone may have written: `formed`
+// of specs/Legal asks whether it is one of the two.
 #[derive(Clone, Copy)]
 pub struct Record {
     pub size: u16,
@@ -56,7 +57,8 @@ pub struct Record {
     pub count: u32,
 }
 
-// An entry of the catalogue of count files: the file's time, its number of rows and its mark (02, wish 3).
+// An entry of the catalogue of count files: the file's time, its number of rows and its mark (02, wish 3), a number since it crosses
+// to C and a stranger's may be any.
 #[repr(C)]
 #[derive(Clone, Copy)]
 pub struct Entry {
@@ -142,7 +144,7 @@ pub struct Chosen {
     pub between: u32,
 }
 
-// What a view answers: where the rows of the outset used lie, and the same of it.
+// What a view answers: where the rows of the outset used lie, and the same of it. `Chosen` has a time besides, which no call answers.
 #[derive(Clone, Copy)]
 pub struct OutsetSaid {
     pub place: Place,

@@ -10,6 +10,8 @@ ghost use Rattle.codec.specs.Parts.{put};
 ghost use Rattle.model.specs.NetChange.{change_bytes};
 ghost use Rattle.netting.specs.Merge.{change_at, Underway, Head, Passes, Merges};
 
+use model::Record;
+
 // How far a merge has come: the rows passed of either table, and the entries written.
 #[derive(Clone, Copy)]
 pub struct Way {
@@ -69,8 +71,8 @@ fn put_recounted(out: &mut [u8], k: usize, was: &[u8], i: usize, is: &[u8], j: u
         (change_bytes (change_at 3 was.now i) ++ change_bytes (change_at 2 is.now j)) }
 {
     let next = k + 1;
-    put_row(out, k, 3, was, i);
-    put_row(out, next, 2, is, j);
+    put_row(out, k, Record::DELETION, was, i);
+    put_row(out, next, Record::INSERTION, is, j);
 }
 
 // The first rows not yet passed, of the m rows of a and the n rows of b: that of the smaller article is
@@ -83,7 +85,7 @@ fn pass(a: &[u8], m: usize, b: &[u8], n: usize, out: &mut [u8], at: Way) -> Way
     let x = head(a, at.left, m);
     let y = head(b, at.right, n);
     if x < y {
-        put_row(out, at.entries, 3, a, at.left);
+        put_row(out, at.entries, Record::DELETION, a, at.left);
         return Way {
             left: at.left + 1,
             entries: at.entries + 1,
@@ -91,7 +93,7 @@ fn pass(a: &[u8], m: usize, b: &[u8], n: usize, out: &mut [u8], at: Way) -> Way
         };
     }
     if y < x {
-        put_row(out, at.entries, 2, b, at.right);
+        put_row(out, at.entries, Record::INSERTION, b, at.right);
         return Way {
             right: at.right + 1,
             entries: at.entries + 1,

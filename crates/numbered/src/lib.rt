@@ -217,8 +217,8 @@ pub fn units(
     ensures { (catalogue : List Entry) → c ≡ candidates_in s t catalogue
         → UnitsCrossed result (store_lent s log.now index.now current.now catalogue areas.now) t }
 {
-    let l = Lent::in_one_stretch(s, log, index, current);
-    units::at(l, c, areas, t).into()
+    let lent = Lent::in_one_stretch(s, log, index, current);
+    units::at(lent, c, areas, t).into()
 }
 
 pub fn units_between(

@@ -28,6 +28,7 @@ pub struct Span {
     pub length: usize,
 }
 
+// Neither this nor the next is a `From`: `Place` and the numbers are not this crate's.
 #[tactic(auto, unfolding(crate::specs::Answers::place_out))]
 fn place_out(place: Place) -> u8
     ensures { result ≡ place_out place }

@@ -1,4 +1,5 @@
 pub mod Admissions
+pub mod Oks
 pub mod StepLaws
 pub mod Replays
 pub mod Questions

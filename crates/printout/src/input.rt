@@ -5,6 +5,7 @@ use std::io::Read;
 // Reads until the log is full, and leaves what is past that, or the input ends.
 pub fn read_log<I: Read>(input: &mut I, log: &mut [u8]) -> io::Result<()> {
     let mut done = 0;
+    // A `while`: a read may give less than is asked for.
     while done < log.len() {
         let n = input.read(&mut log[done..])?;
         if n == 0 {

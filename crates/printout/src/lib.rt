@@ -69,7 +69,7 @@ fn list_time<R: Print>(
 ) -> io::Result<()> {
     output::make_room(rt, out)?;
     if let Ok(line) = line_of(l, t, table) {
-        write!(out, "{line}")?;
+        output::gather(out, line)?;
     }
     Ok(())
 }
@@ -78,7 +78,7 @@ fn list_time<R: Print>(
 fn list_units<R: Print>(rt: &R, l: Lent, out: &mut Gathered) -> io::Result<()> {
     output::make_room(rt, out)?;
     if let Ok(total) = units::at(l, no_files(l.numbers), &[], l.numbers.last) {
-        write!(out, "{}", Units(total))?;
+        output::gather(out, Units(total))?;
     }
     Ok(())
 }
@@ -90,7 +90,7 @@ fn list_records<R: Print>(rt: &R, l: Lent, table: &mut [u8], out: &mut Gathered)
 {
     let mut time = 0;
     let mut reader = LogReader::new(l.log);
-    // no `for`: that the loop ends is shown here, where the edit on_after_the_end goes on
+    // A `while`: a `for` ends whatever it goes over, and the edit on_after_the_end would be refused for a missing name alone.
     while let Some(record) = reader.next() {
         if record.time != time {
             list_time(rt, l, record.time, table, out)?;

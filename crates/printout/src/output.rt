@@ -3,8 +3,9 @@ ghost use Rattle.std.specs.Prelude.{◌+◌, ◌≤◌, IfOk};
 ghost use Rattle.arrayvec.specs.ArrayVec.{array_vec_len};
 
 use arrayvec::ArrayVec;
+use std::fmt::Display;
 use std::io;
-use std::io::Print;
+use std::io::{Print, Write};
 
 // The text that is still to be written.
 pub type Gathered = ArrayVec<u8, 8192>;
@@ -12,6 +13,13 @@ pub type Gathered = ArrayVec<u8, 8192>;
 // Writes it.
 pub fn write<R: Print>(rt: &R, out: &Gathered) -> io::Result<()> {
     rt.write_all(out.as_slice())
+}
+
+// Gathers a line, for which there is space: `line_short` and `units_short` of lines/proofs say that none is longer.
+pub fn gather<L: Display + Drop>(out: &mut Gathered, line: L) -> io::Result<()>
+    requires { array_vec_len out.old + 65 ≤ 8192 }
+{
+    write!(out, "{line}")
 }
 
 // Makes space for a line behind it.

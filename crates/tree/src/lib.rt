@@ -18,7 +18,7 @@ use model::NodeNumber;
 // `nodes` is 0.
 #[derive(Clone, Copy)]
 pub struct Extents<'a> {
-    // nodes of an extent, 0 where there are none
+    // nodes of an extent, 0 where there are none: a number and no Option, as `place_of` of specs/Places tests it
     pub nodes: u32,
     // the first word of each extent
     pub starts: &'a [u64],

@@ -46,7 +46,8 @@ fn holds_times(
     true
 }
 
-// How many leaves further on each separator of the node is that leaf m opens; 0 where it opens none.
+// How many leaves further on each separator of the node is that leaf m opens; 0 where it opens none, as `span_of` of specs/Stands
+// counts, which `Openable` and the walk below are of.
 fn span_of(d: u32, m: u32) -> u32
     requires le_d { (2 ≤ d) × (d ≤ 64) }
     requires m_bound { m ≤ 65536 }

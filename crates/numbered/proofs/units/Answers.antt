@@ -3,7 +3,7 @@ use Rattle.numbered.proofs.units.Goals as goal
 
 pub returns : goal.returns
 returns c catalogue e =
-    let l = c.in_one_stretch-l.ensures in
+    let l = c.in_one_stretch-lent.ensures in
     record {
       answer = c.at.result;
       is = c.into.ensures;
