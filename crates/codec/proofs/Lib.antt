@@ -4,3 +4,5 @@ pub mod Moves
 pub mod Sameness
 pub mod StretchLaws
 pub mod Searches
+pub mod Fills
+pub mod Halves

@@ -49,6 +49,12 @@ unfolding bytes
 length-bytes zero n = refl
 length-bytes (suc w) n = ap suc (length-bytes w (n / 256))
 
+-- 0 is written as zeros
+pub bytes_zero : (w : ℕ) → bytes w 0 ≡ zeros w
+unfolding bytes
+bytes_zero zero = refl
+bytes_zero (suc w) = ap (λ (l : List ℕ). 0 ∷ l) (bytes_zero w)
+
 pub number-bytes : (w n : ℕ) (rest : List ℕ) → n < 256 ^ w → number w (bytes w n ++ rest) 0 ≡ n
 unfolding number bytes
 number-bytes zero n rest h = omega arith

@@ -1,3 +1,4 @@
 pub mod Numerals
-pub mod TextCases
 pub mod Lengths
+pub mod Gatherings
+pub mod TextCases

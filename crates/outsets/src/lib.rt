@@ -31,6 +31,7 @@ fn position_of(l: Lent, time: u64, t: u64, here: Position) -> Position
 
 // Of two held tables the outset used for t, whose position is `here`: the later one only where strictly fewer requests lie
 // between.
+#[inline(always)]
 pub fn choose(l: Lent, early: Held, late: Held, t: u64, here: Position) -> Used
     requires indexed { IndexedLent l }
     requires records_in_bounds { 24 + 24 * l.numbers.records ≤ length l.log.now }

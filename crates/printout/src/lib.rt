@@ -6,18 +6,18 @@
 mod input;
 mod output;
 
-ghost use Rattle.std.specs.Prelude.{◌≡◌, ◌≤◌, IfOk};
+ghost use Rattle.std.specs.Prelude.{◌≡◌, ◌+◌, ◌≤◌, IfOk};
+ghost use Rattle.arrayvec.specs.ArrayVec.{array_vec_len};
 ghost use Rattle.printout.specs.Listings.{LastOf};
 ghost use Rattle.printout.specs.Statuses.{code_of};
 
 use catalogue::Candidates;
-use lines::{Line, Refused, Units};
-use model::{Numbers, Refusal};
+use model::Numbers;
 use output::Gathered;
 use pages::Lent;
 use reader::LogReader;
 use std::io;
-use std::io::{Eprint, Input, Print, Write};
+use std::io::{Eprint, Input, Print};
 use tree::Extents;
 
 // How the program ends: listed, refused by one of 01's questions, or it could not read or not write.
@@ -47,18 +47,6 @@ fn no_files(s: Numbers) -> Candidates {
     catalogue::none_around(s, 0)
 }
 
-// The line for the time t.
-fn line_of(l: Lent, t: u64, table: &mut [u8]) -> Result<Line, Refusal> {
-    let position = tables::position(l, 0, 0, t)?;
-    let said = tables::table(l, no_files(l.numbers), &[], t, table)?;
-    Ok(Line {
-        time: t,
-        page: position.page.0,
-        side: said.side,
-        rows: said.rows,
-    })
-}
-
 // Gathers the line for the time t.
 fn list_time<R: Print>(
     rt: &R,
@@ -68,9 +56,15 @@ fn list_time<R: Print>(
     out: &mut Gathered,
 ) -> io::Result<()> {
     output::make_room(rt, out)?;
-    if let Ok(line) = line_of(l, t, table) {
-        output::gather(out, line)?;
-    }
+    let Ok(position) = tables::position(l, 0, 0, t) else {
+        return Ok(());
+    };
+    let Ok(said) = tables::table(l, no_files(l.numbers), &[], t, table) else {
+        return Ok(());
+    };
+    let mut line = [0u8; lines::LINE];
+    let end = lines::put_line(&mut line, 0, t, position.page.0, said.side, said.rows);
+    output::gather(out, &line[..end]);
     Ok(())
 }
 
@@ -78,7 +72,9 @@ fn list_time<R: Print>(
 fn list_units<R: Print>(rt: &R, l: Lent, out: &mut Gathered) -> io::Result<()> {
     output::make_room(rt, out)?;
     if let Ok(total) = units::at(l, no_files(l.numbers), &[], l.numbers.last) {
-        output::gather(out, Units(total))?;
+        let mut line = [0u8; lines::LINE];
+        let end = lines::put_units(&mut line, 0, total);
+        output::gather(out, &line[..end]);
     }
     Ok(())
 }
@@ -101,9 +97,11 @@ fn list_records<R: Print>(rt: &R, l: Lent, table: &mut [u8], out: &mut Gathered)
 }
 
 // A line for each different time among the records, and the units.
-fn list<R: Print>(rt: &R, l: Lent, out: &mut Gathered) -> io::Result<()> {
+fn list<R: Print>(rt: &R, l: Lent, out: &mut Gathered) -> io::Result<()>
+    requires { array_vec_len out.old + 65 ≤ 8192 }
+{
     let mut table = [0u8; 8192];
-    writeln!(out, "time page outset rows")?;
+    output::gather(out, b"time page outset rows\n");
     let _ = list_records(rt, l, &mut table, out)?;
     list_units(rt, l, out)
 }
@@ -117,7 +115,9 @@ fn print<R: Print>(rt: &R, log: &[u8]) -> io::Result<Status> {
     let mut out = Gathered::new();
     let status = match started.verdict {
         Err(why) => {
-            write!(&mut out, "{}", Refused(answers::question(why)))?;
+            let mut line = [0u8; lines::LINE];
+            let end = lines::put_refused(&mut line, 0, answers::question(why));
+            output::gather(&mut out, &line[..end]);
             Status::Refused
         }
         Ok(()) => {
@@ -130,26 +130,14 @@ fn print<R: Print>(rt: &R, log: &[u8]) -> io::Result<Status> {
     Ok(status)
 }
 
-// Says why it ends.
-fn failed<R: Eprint>(rt: &R, why: &str, status: Status) -> Status
-    ensures { result ≡ status }
-{
-    let _ = rt.eprintln(why);
-    status
-}
-
 fn read_and_print<R: Input + Print + Eprint>(rt: &R) -> Status {
     let mut log = [0u8; 65536];
     if input::read_log(&mut rt.reader(), &mut log).is_err() {
-        return failed(rt, "listing: cannot read standard input", Status::Unread);
+        return input::fail(rt);
     }
     match print(rt, &log) {
         Ok(status) => status,
-        Err(_) => failed(
-            rt,
-            "listing: cannot write standard output",
-            Status::Unwritten,
-        ),
+        Err(_) => output::fail(rt),
     }
 }
 

@@ -1,11 +1,12 @@
 // Standard output: text is gathered in a buffer, which is written when the next line might not fit, and at the end.
-ghost use Rattle.std.specs.Prelude.{◌+◌, ◌≤◌, IfOk};
+ghost use Rattle.std.specs.Prelude.{◌≡◌, ◌++◌, ◌+◌, ◌≤◌, IfOk, length};
 ghost use Rattle.arrayvec.specs.ArrayVec.{array_vec_len};
+ghost use Rattle.printout.specs.declared.Status.TheVariants.{Unwritten};
 
+use super::Status;
 use arrayvec::ArrayVec;
-use std::fmt::Display;
 use std::io;
-use std::io::{Print, Write};
+use std::io::{Eprint, Print};
 
 // The text that is still to be written.
 pub type Gathered = ArrayVec<u8, 8192>;
@@ -15,11 +16,12 @@ pub fn write<R: Print>(rt: &R, out: &Gathered) -> io::Result<()> {
     rt.write_all(out.as_slice())
 }
 
-// Gathers a line, for which there is space: `line_short` and `units_short` of lines/proofs say that none is longer.
-pub fn gather<L: Display + Drop>(out: &mut Gathered, line: L) -> io::Result<()>
-    requires { array_vec_len out.old + 65 ≤ 8192 }
+// Gathers a text, for which there is space: behind what is gathered.
+pub fn gather(out: &mut Gathered, text: &[u8])
+    requires { array_vec_len out.old + length text.now ≤ 8192 }
+    ensures { out.new.items ≡ out.old.items ++ text.now }
 {
-    write!(out, "{line}")
+    let _fits = out.try_extend_from_slice(text);
 }
 
 // Makes space for a line behind it.
@@ -31,4 +33,12 @@ pub fn make_room<R: Print>(rt: &R, out: &mut Gathered) -> io::Result<()>
         out.clear();
     }
     Ok(())
+}
+
+// Says that a write failed, and answers how the program ends.
+pub fn fail<R: Eprint>(rt: &R) -> Status
+    ensures { result ≡ Unwritten }
+{
+    let _ = rt.eprintln("listing: cannot write standard output");
+    Status::Unwritten
 }
